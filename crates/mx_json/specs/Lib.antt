@@ -1,1 +1,4 @@
 pub mod Gives
+pub mod Ids
+pub mod Json
+pub mod Reading

@@ -1,0 +1,81 @@
+-- The definitions over a value, level by level.
+use Rattle.std.proofs.Common.{◌≡◌, ℕ, ◌≤◌, nat_le, ℤ, Bool, true, List, [], ◌∷◌, map, Some, inl, inr, arith, rules}
+use Rattle.std.proofs.lemmas.Bool.{and_parts, and_from, cases_Bool, le-leb, leb-true}
+use Rattle.std.specs.List.{list_all}
+use Rattle.std.specs.Str.{bytes_eq}
+use Rattle.mx_json.specs.declared.value.Json.{Json, Whole, List as ListOf, Object, out-Json, roll-Json, roll-out-Json, the_lemmas}
+use Rattle.mx_json.specs.declared.value.Json.TheOpen.{Json-F}
+use Rattle.mx_json.specs.declared.value.Json.TheVariants.{rolls-Object}
+use Rattle.mx_json.specs.declared.value.JsonList.{JsonList}
+use Rattle.mx_json.specs.declared.value.JsonObject.{JsonObject}
+use Rattle.mx_json.specs.Json.{depth_of, is_canonical, is_whole, list_depth, object_depth, is_canonical_list, is_canonical_object, member, member_in, top_pairs, is_valid, largest, are_rising}
+
+-- the pair, with f at its value
+abbrev pub with_value : {A B : Type 0} → (A → B) → List ℕ × A → List ℕ × B
+with_value f pair = (pair.0, f pair.1)
+
+pub depth_of-List : (list : JsonList) → depth_of (ListOf list) ≡ list_depth record { items = map depth_of list.items }
+depth_of-List list = search (rules, the_lemmas)
+
+pub depth_of-Object : (object : JsonObject) → depth_of (Object object) ≡ object_depth record { pairs = map (with_value depth_of) object.pairs }
+depth_of-Object object = search (rules, the_lemmas)
+
+pub is_canonical-List : (list : JsonList) → is_canonical (ListOf list) ≡ is_canonical_list record { items = map is_canonical list.items }
+is_canonical-List list = search (rules, the_lemmas)
+
+pub is_canonical-Object : (object : JsonObject) → is_canonical (Object object) ≡ is_canonical_object record { pairs = map (with_value is_canonical) object.pairs }
+is_canonical-Object object = search (rules, the_lemmas)
+
+pub is_canonical-Whole : (n : ℤ) → is_canonical (Whole n) ≡ is_whole n
+is_canonical-Whole n = search (rules, the_lemmas)
+
+-- what holds of each value holds of the value of the first pair with a key
+all_of_values : (f : Json → Bool) (key : List ℕ) (pairs : List (List ℕ × Json)) (json : Json) → list_all (λ pair. pair.1) (map (with_value f) pairs) ≡ true → member_in key pairs ≡ Some json → f json ≡ true
+all_of_values f key [] json all is = cc
+all_of_values f key (pair ∷ pairs) json all is =
+    let parts = and_parts (f pair.1) (list_all (λ p. p.1) (map (with_value f) pairs)) all in
+    elim (cases_Bool (bytes_eq pair.0 key)) [
+      | inl same ↦ let here : Some pair.1 ≡ Some json = rw same at is in cc
+      | inr differs ↦ all_of_values f key pairs json parts.1 (rw differs at is)
+    ]
+
+-- no value is larger than the largest
+largest_of_values : (f : Json → ℕ) (key : List ℕ) (pairs : List (List ℕ × Json)) (json : Json) → member_in key pairs ≡ Some json → f json ≤ largest (map (λ pair. pair.1) (map (with_value f) pairs))
+largest_of_values f key [] json is = absurd cc
+largest_of_values f key (pair ∷ pairs) json is =
+    elim (cases_Bool (bytes_eq pair.0 key)) [
+      | inl same ↦
+          let here : Some pair.1 ≡ Some json = rw same at is in
+          let at_json : f json ≡ f pair.1 = cc in
+          omega arith
+      | inr differs ↦ let rest = largest_of_values f key pairs json (rw differs at is) in omega arith
+    ]
+
+-- a value is valid where both parts hold
+pub is_valid_from : (json : Json) → is_canonical json ≡ true → depth_of json ≤ 127 → is_valid json ≡ true
+is_valid_from json canonical within = and_from _ _ canonical (le-leb _ _ within)
+
+pub is_valid_parts : (json : Json) → is_valid json ≡ true → (is_canonical json ≡ true) × (depth_of json ≤ 127)
+is_valid_parts json valid =
+    let parts = and_parts (is_canonical json) (nat_le (depth_of json) 127) valid in (parts.0, leb-true _ _ parts.1)
+
+-- the members of a valid object are valid
+pub is_valid-member_in : (key : List ℕ) (object : JsonObject) (json : Json) → is_valid (Object object) ≡ true → member_in key object.pairs ≡ Some json → is_valid json ≡ true
+is_valid-member_in key object json valid is =
+    let parts = is_valid_parts (Object object) valid in
+    let canonical = rw is_canonical-Object at parts.0 in
+    let each = and_parts (are_rising (map (λ pair. pair.0) (map (with_value is_canonical) object.pairs))) (list_all (λ pair. pair.1) (map (with_value is_canonical) object.pairs)) canonical in
+    let largest_is = largest_of_values depth_of key object.pairs json is in
+    is_valid_from json (all_of_values is_canonical key object.pairs json each.1 is) (omega (arith, parts.1, depth_of-Object object))
+
+abbrev layers_valid : List ℕ → Json-F Json JsonList JsonObject → Json → Type 0
+layers_valid key layer json =
+    is_valid (roll-Json layer) ≡ true → member_in key (top_pairs layer) ≡ Some json → is_valid json ≡ true
+
+layers-valid : (key : List ℕ) (layer : Json-F Json JsonList JsonObject) (json : Json) → layers_valid key layer json
+layers-valid key (Json-F.Object object) json = λ valid is. is_valid-member_in key object json (rw rolls-Object at valid) is
+layers-valid key other json = λ valid is. absurd cc
+
+pub is_valid-member : (key : List ℕ) (whole json : Json) → is_valid whole ≡ true → member key whole ≡ Some json → is_valid json ≡ true
+is_valid-member key whole json valid is =
+    layers-valid key (out-Json whole) json (rw (roll-out-Json whole) valid) is

@@ -1,0 +1,71 @@
+-- What bytes are read as a JSON value: RFC 8259 as `serde_json` reads it, with numbers that are whole; the rest is ours.
+use Rattle.std.specs.Prelude.{ℕ, ℤ, pos, nat_le, Bool, true, ◌&&◌, if◌then◌else◌, List, [], ◌∷◌, Option, Some, None, is_some, option_and_then, unwrap_or, Result, Ok, Err}
+use Rattle.std.specs.Option.{option_map_or}
+use Rattle.std.specs.Str.{is_utf8}
+use Rattle.serde_json.specs.Data.{Num, Data, null, boolean, number, string, array, object, Items, no_items, item, Members, no_members, member, depth}
+use Rattle.serde_json.specs.Find.{as_i64}
+use Rattle.serde_json.specs.Read.{read}
+use Rattle.mx_json.specs.declared.reading.JsonError.{JsonError}
+use Rattle.mx_json.specs.declared.reading.JsonError.TheVariants.{BadJson, NotWhole}
+use Rattle.mx_json.specs.declared.value.Json.{Json, Null, Truth, Whole, Text, List as ListOf, Object}
+use Rattle.mx_json.specs.Json.{is_whole}
+
+-- the value that these bytes are, if they are the UTF-8 of one
+unfoldable pub reading : List ℕ → Option Data
+reading bytes = if is_utf8 bytes then read bytes else None
+
+-- the number, where it is whole and in range
+abbrev pub in_range : ℤ → Option ℤ
+in_range n = if is_whole n then Some n else None
+
+-- the whole number that a number is: one with a full stop or an exponent is none, and neither is `-0`
+abbrev pub whole_of : Num → Option ℤ
+whole_of n = option_and_then in_range (as_i64 n)
+
+-- each number in the value is whole
+abbrev mutual
+  pub all_whole : Data → Bool
+  all_whole null = true
+  all_whole (boolean truth) = true
+  all_whole (number n) = is_some (whole_of n)
+  all_whole (string bytes) = true
+  all_whole (array items) = all_whole_items items
+  all_whole (object members) = all_whole_members members
+
+  pub all_whole_items : Items → Bool
+  all_whole_items no_items = true
+  all_whole_items (item value items) = all_whole value && all_whole_items items
+
+  pub all_whole_members : Members → Bool
+  all_whole_members no_members = true
+  all_whole_members (member key value members) = all_whole value && all_whole_members members
+
+-- the value, where each number in it is whole
+abbrev mutual
+  pub json_of : Data → Json
+  json_of null = Null
+  json_of (boolean truth) = Truth truth
+  json_of (number n) = Whole (unwrap_or (whole_of n) (pos 0))
+  json_of (string bytes) = Text bytes
+  json_of (array items) = ListOf record { items = items_of items }
+  json_of (object members) = Object record { pairs = pairs_of members }
+
+  pub items_of : Items → List Json
+  items_of no_items = []
+  items_of (item value items) = json_of value ∷ items_of items
+
+  pub pairs_of : Members → List (List ℕ × Json)
+  pairs_of no_members = []
+  pairs_of (member key value members) = (key, json_of value) ∷ pairs_of members
+
+-- the value, or that a number in it isn't whole
+unfoldable pub whole_json : Data → Result Json JsonError
+whole_json value = if all_whole value then Ok (json_of value) else Err NotWhole
+
+-- the value, or that it is nested deeper than `deepest`
+unfoldable pub json_within : ℕ → Data → Result Json JsonError
+json_within deepest value = if nat_le (depth value) deepest then whole_json value else Err BadJson
+
+-- what bytes are read as, where a value may be nested `deepest` deep
+unfoldable pub read_json : List ℕ → ℕ → Result Json JsonError
+read_json bytes deepest = option_map_or (json_within deepest) (reading bytes) (Err BadJson)

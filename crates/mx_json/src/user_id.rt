@@ -1,0 +1,59 @@
+ghost use Rattle.std.specs.Prelude.{◌≡◌, true, IfOk};
+ghost use Rattle.mx_json.specs.Gives.{Gives};
+ghost use Rattle.mx_json.specs.Ids.{is_user_id, read_user_id};
+
+use crate::id::IdError;
+use crate::memory::OutOfMemory;
+use std::alloc::Global;
+use std::marker::Model;
+
+/// XX
+#[derive(Debug, Drop)]
+pub struct UserId {
+    text: String,
+}
+
+impl Model for UserId {
+    ghost use Rattle.std.specs.Prelude.{◌≡◌, true, List, ℕ};
+    ghost use Rattle.std.specs.String.{string_bytes};
+    ghost use Rattle.mx_json.specs.Ids.{is_user_id};
+
+    ghost Value = { List ℕ };
+
+    ghost view = { λ id. string_bytes id.text };
+
+    ghost invariant = { λ id. is_user_id (string_bytes id.text) ≡ true };
+}
+
+impl UserId {
+    /// Reads a user id.
+    ///
+    /// # Errors
+    ///
+    /// `BadId` exactly where the text isn't a user id; `OutOfMemory` where the allocator has none.
+    pub fn read(alloc: Global, text: &str) -> Result<UserId, IdError>
+        ensures { Gives IdError.OutOfMemory result (read_user_id text.now) }
+    {
+        Err(IdError::OutOfMemory)
+    }
+
+    /// The text of the id.
+    pub fn as_text(&self) -> &str
+        ensures text { result.now ≡ self.now }
+        ensures id { is_user_id self.now ≡ true }
+    {
+        self.text.as_str()
+    }
+
+    /// An equal id of its own.
+    ///
+    /// # Errors
+    ///
+    /// `OutOfMemory` where the allocator has none.
+    pub fn copied(&self, alloc: Global) -> Result<UserId, OutOfMemory>
+        ensures { IfOk result (λ id. id ≡ self.now) }
+    {
+        let text = String::from_str(alloc, self.text.as_str())?;
+        Ok(UserId { text })
+    }
+}
