@@ -1,2 +1,15 @@
 pub mod MemberLemmas
 pub mod JsonLemmas
+pub mod Induction
+pub mod PathLemmas
+pub mod RisingLemmas
+pub mod LookLemmas
+pub mod DataLemmas
+pub mod CanonicalLemmas
+pub mod ReadBackLemmas
+pub mod IdLemmas
+pub mod WholeLemmas
+pub mod ReadingLemmas
+pub mod ValidLemmas
+pub mod Utf8Lemmas
+pub mod RoundTrip

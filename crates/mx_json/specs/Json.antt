@@ -1,5 +1,5 @@
 -- What a JSON value holds, how deep it is nested, and when it is valid: RFC 8259, with the numbers and the order of keys of Matrix's canonical JSON.
-use Rattle.std.specs.Prelude.{◌≡◌, ◌<◌, length, slice_get, option_map, ℕ, suc, max, ℤ, nat_abs, nat_le, Bool, true, ◌&&◌, if◌then◌else◌, List, [], ◌∷◌, map, Option, Some, None, option_and_then}
+use Rattle.std.specs.Prelude.{◌≡◌, ◌<◌, length, slice_get, option_map, ℕ, suc, max, ℤ, nat_abs, nat_le, Bool, true, false, ◌&&◌, if◌then◌else◌, List, [], ◌∷◌, map, Option, Some, None, option_and_then}
 use Rattle.std.specs.Cmp.Lexicographic.{slice_cmp}
 use Rattle.std.specs.List.{list_all}
 use Rattle.std.specs.Ordering.{is_lt, nat_cmp}
@@ -28,6 +28,14 @@ top_pairs other = []
 -- the member of an object with this key; other values have none
 abbrev pub member : List ℕ → Json → Option Json
 member key json = member_in key (top_pairs (out-Json json))
+
+-- the value is an object
+abbrev pub is_object_at_top : Json-F Json JsonList JsonObject → Bool
+is_object_at_top (Json-F.Object object) = true
+is_object_at_top other = false
+
+abbrev pub is_object : Json → Bool
+is_object json = is_object_at_top (out-Json json)
 
 -- the bytes at the top of a value: those of a text, and none for any other
 abbrev pub top_text : Json-F Json JsonList JsonObject → Option (List ℕ)

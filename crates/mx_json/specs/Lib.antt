@@ -1,4 +1,10 @@
+pub mod Canonical
+pub mod Folded
 pub mod Gives
 pub mod Ids
 pub mod Json
+pub mod Path
+pub mod PathReader
 pub mod Reading
+pub mod Tokens
+pub mod Utf8

@@ -1,5 +1,5 @@
 -- What bytes are read as a JSON value: RFC 8259 as `serde_json` reads it, with numbers that are whole; the rest is ours.
-use Rattle.std.specs.Prelude.{ℕ, ℤ, pos, nat_le, Bool, true, ◌&&◌, if◌then◌else◌, List, [], ◌∷◌, Option, Some, None, is_some, option_and_then, unwrap_or, Result, Ok, Err}
+use Rattle.std.specs.Prelude.{ℕ, ℤ, pos, nat_le, Bool, true, ◌&&◌, if◌then◌else◌, List, [], ◌∷◌, ◌++◌, Option, Some, None, is_some, option_and_then, unwrap_or, Result, Ok, Err}
 use Rattle.std.specs.Option.{option_map_or}
 use Rattle.std.specs.Str.{is_utf8}
 use Rattle.serde_json.specs.Data.{Num, Data, null, boolean, number, string, array, object, Items, no_items, item, Members, no_members, member, depth}
@@ -58,9 +58,19 @@ abbrev mutual
   pairs_of no_members = []
   pairs_of (member key value members) = (key, json_of value) ∷ pairs_of members
 
--- the value, or that a number in it isn't whole
+-- what was read, or that a number in it isn't whole
+abbrev pub whole_or : {A : Type 0} → Bool → A → Result A JsonError
+whole_or is_all_whole value = if is_all_whole then Ok value else Err NotWhole
+
 unfoldable pub whole_json : Data → Result Json JsonError
-whole_json value = if all_whole value then Ok (json_of value) else Err NotWhole
+whole_json value = whole_or (all_whole value) (json_of value)
+
+-- the same of the members of a list and of an object, behind those that were read; for private clauses
+unfoldable pub whole_items : List Json → Items → Result (List Json) JsonError
+whole_items done items = whole_or (all_whole_items items) (done ++ items_of items)
+
+unfoldable pub whole_pairs : List (List ℕ × Json) → Members → Result (List (List ℕ × Json)) JsonError
+whole_pairs done members = whole_or (all_whole_members members) (done ++ pairs_of members)
 
 -- the value, or that it is nested deeper than `deepest`
 unfoldable pub json_within : ℕ → Data → Result Json JsonError

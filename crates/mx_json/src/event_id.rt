@@ -2,12 +2,12 @@ ghost use Rattle.std.specs.Prelude.{◌≡◌, true, IfOk};
 ghost use Rattle.mx_json.specs.Gives.{Gives};
 ghost use Rattle.mx_json.specs.Ids.{is_event_id, read_event_id};
 
-use crate::id::IdError;
+use crate::id::{IdError, begins_with, has_length_of_an_id};
 use crate::memory::OutOfMemory;
 use std::alloc::Global;
 use std::marker::Model;
 
-/// XX
+/// An event id: it begins with `$`, and has 2 to 255 bytes (Matrix, 'Common identifier format').
 #[derive(Debug, Drop)]
 pub struct EventId {
     text: String,
@@ -34,7 +34,11 @@ impl EventId {
     pub fn read(alloc: Global, text: &str) -> Result<EventId, IdError>
         ensures { Gives IdError.OutOfMemory result (read_event_id text.now) }
     {
-        Err(IdError::OutOfMemory)
+        if !is_event_id(text) {
+            return Err(IdError::BadId);
+        }
+        let text = String::from_str(alloc, text)?;
+        Ok(EventId { text })
     }
 
     /// The text of the id.
@@ -56,4 +60,11 @@ impl EventId {
         let text = String::from_str(alloc, self.text.as_str())?;
         Ok(EventId { text })
     }
+}
+
+/// Whether the text is an event id.
+pub fn is_event_id(text: &str) -> bool
+    ensures { result ≡ is_event_id text.now }
+{
+    begins_with(text, b'$') && has_length_of_an_id(text)
 }

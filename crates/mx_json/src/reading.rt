@@ -1,10 +1,14 @@
-ghost use Rattle.std.specs.Prelude.{◌≡◌, ◌≤◌, true, IfOk};
+ghost use Rattle.std.specs.Prelude.{◌≡◌, ◌≤◌, ◌⊎◌, true, Some, None, IfOk, MatchResult};
 ghost use Rattle.mx_json.specs.Gives.{Gives};
 ghost use Rattle.mx_json.specs.Json.{is_valid};
-ghost use Rattle.mx_json.specs.Reading.{read_json};
+ghost use Rattle.mx_json.specs.Reading.{read_json, reading};
+ghost use Rattle.serde_json.specs.View.{view};
 
 use crate::memory::OutOfMemory;
+use crate::nesting::nests_within;
 use crate::value::Json;
+use crate::whole::whole_json;
+use serde_json::Value;
 use std::alloc::{AllocError, Global};
 use std::error::Error;
 use std::fmt;
@@ -69,6 +73,26 @@ impl Json {
         ensures read { Gives JsonError.OutOfMemory result (read_json bytes.now deepest) }
         ensures valid { IfOk result (λ json. is_valid json ≡ true) }
     {
-        Err(JsonError::OutOfMemory)
+        let value = read_value(alloc, bytes)?;
+        if !nests_within(&value, deepest) {
+            return Err(JsonError::BadJson);
+        }
+        whole_json(alloc, &value)
+    }
+}
+
+fn read_value(alloc: Global, bytes: &[u8]) -> Result<Value, JsonError>
+    ensures { MatchResult result
+        (λ value. reading bytes.now ≡ Some (view value))
+        (λ error. ((reading bytes.now ≡ None) × (error ≡ JsonError.BadJson))
+        ⊎ (error ≡ JsonError.OutOfMemory)) }
+{
+    match Value::from_slice(alloc, bytes) {
+        Ok(value) => Ok(value),
+        Err(error) => if error.is_memory() {
+            Err(JsonError::OutOfMemory)
+        } else {
+            Err(JsonError::BadJson)
+        },
     }
 }

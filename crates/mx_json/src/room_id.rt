@@ -2,12 +2,12 @@ ghost use Rattle.std.specs.Prelude.{◌≡◌, true, IfOk};
 ghost use Rattle.mx_json.specs.Gives.{Gives};
 ghost use Rattle.mx_json.specs.Ids.{is_room_id, read_room_id};
 
-use crate::id::IdError;
+use crate::id::{IdError, begins_with, has_length_of_an_id};
 use crate::memory::OutOfMemory;
 use std::alloc::Global;
 use std::marker::Model;
 
-/// XX
+/// A room id: it begins with `!`, and has 2 to 255 bytes (Matrix, 'Common identifier format').
 #[derive(Debug, Drop)]
 pub struct RoomId {
     text: String,
@@ -34,7 +34,11 @@ impl RoomId {
     pub fn read(alloc: Global, text: &str) -> Result<RoomId, IdError>
         ensures { Gives IdError.OutOfMemory result (read_room_id text.now) }
     {
-        Err(IdError::OutOfMemory)
+        if !is_room_id(text) {
+            return Err(IdError::BadId);
+        }
+        let text = String::from_str(alloc, text)?;
+        Ok(RoomId { text })
     }
 
     /// The text of the id.
@@ -56,4 +60,11 @@ impl RoomId {
         let text = String::from_str(alloc, self.text.as_str())?;
         Ok(RoomId { text })
     }
+}
+
+/// Whether the text is a room id.
+pub fn is_room_id(text: &str) -> bool
+    ensures { result ≡ is_room_id text.now }
+{
+    begins_with(text, b'!') && has_length_of_an_id(text)
 }

@@ -1,0 +1,30 @@
+-- A step down a path, and the object that it goes through.
+use Rattle.std.proofs.Common.{◌≡◌, ℕ, ◌+◌, ◌<◌, true, List, length, get_or, drop, slice_get, Some, option_map, option_and_then, sym, ap, ◌∙◌}
+use Rattle.std.proofs.lemmas.List.{at_drop_more}
+use Rattle.std.proofs.lemmas.Option.{slice_get-get_or}
+use Rattle.mx_json.specs.declared.value.Json.{Json, Object, the_lemmas}
+use Rattle.mx_json.specs.declared.value.JsonObject.{JsonObject}
+use Rattle.mx_json.specs.Json.{is_canonical, is_valid, are_rising, member, member_in}
+use Rattle.mx_json.specs.Path.{look}
+use Rattle.mx_json.proofs.JsonLemmas.{is_valid_parts}
+use Rattle.mx_json.proofs.RisingLemmas.{keys_of, canonical_object}
+use Rattle.std.proofs.Common.{rules}
+
+pub look_step : (path : List (List ℕ)) (i : ℕ) (key : List ℕ) (here next : Json) → i < length path → key ≡ get_or path i key → Some next ≡ member key here → look (drop i path) here ≡ look (drop (i + 1) path) next
+look_step path i key here next within is found =
+    at_drop_more (λ p. look p here) path i key within
+    ∙ ap (λ k. option_and_then (look (drop (i + 1) path)) (member k here)) (sym is)
+    ∙ ap (option_and_then (look (drop (i + 1) path))) (sym found)
+
+-- the keys of a valid object rise
+pub are_rising-valid : (json : Json) (object : JsonObject) → is_valid json ≡ true → json ≡ Object object → are_rising (keys_of object.pairs) ≡ true
+are_rising-valid json object valid is = (canonical_object object (sym (ap is_canonical is) ∙ (is_valid_parts json valid).0)).0
+
+member-Object : (key : List ℕ) (object : JsonObject) → member key (Object object) ≡ member_in key object.pairs
+member-Object key object = search (rules, the_lemmas)
+
+-- the member that stands at a place
+pub member_at : (key : List ℕ) (json : Json) (object : JsonObject) (at : ℕ) (pair : List ℕ × Json) → json ≡ Object object → at < length object.pairs → pair ≡ get_or object.pairs at pair
+    → member_in key object.pairs ≡ option_map (λ p. p.1) (slice_get object.pairs at) → Some pair.1 ≡ member key json
+member_at key json object at pair is within here found =
+    ap (λ p. Some p.1) here ∙ sym (ap (option_map (λ p. p.1)) (slice_get-get_or object.pairs at pair within)) ∙ sym found ∙ sym (member-Object key object) ∙ sym (ap (member key) is)
