@@ -1,0 +1,11 @@
+pub mod Told
+pub mod Pieces
+pub mod Repeats
+pub mod Torn
+pub mod Marks
+pub mod Filled
+pub mod Changes
+pub mod Logged
+pub mod Since
+pub mod Medium
+pub mod LeftBy

@@ -1,0 +1,11 @@
+-- The disk is another after one change, and it leaves nothing that it might not have left before.
+use Rattle.mx_outside.specs.Changes.Change.{synced}
+use Rattle.mx_outside.proofs.Medium.{elapses_one, no_more_synced}
+use Rattle.mx_outside.proofs.memory_disk.MemoryDiskDisk.sync.Goals as goal
+
+pub returns-in-Ok-clause-crash : goal.returns-in-Ok-clause-crash
+returns-in-Ok-clause-crash c =
+    no_more_synced c.args.self.now c.sync_here.new.self c.sync_here.ensures.valid c.in-Ok.ensures.changes
+
+pub returns-in-Ok-clause-time : goal.returns-in-Ok-clause-time
+returns-in-Ok-clause-time c = elapses_one synced c.args.self.now c.sync_here.new.self c.in-Ok.ensures.changes

@@ -1,0 +1,13 @@
+pub mod Told
+pub mod Outside
+pub mod BytesSource
+pub mod RepeatSource
+pub mod VecSink
+pub mod Failing
+pub mod Disk
+pub mod Changes
+pub mod Since
+pub mod DiskImage
+pub mod DiskLog
+pub mod MemoryDisk
+pub mod MediumLaws
