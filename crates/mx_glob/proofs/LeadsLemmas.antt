@@ -1,0 +1,70 @@
+-- Facts of segments and of where a pattern leads.
+use Rattle.std.proofs.Common.{◌≡◌, ℕ, zero, suc, ◌+◌, ◌<◌, ◌==◌, ◌≢◌, true, false, List, [], ◌∷◌, ◌++◌, length, drop, get_or, slice_get, Option, Some, None, IsTrue, MatchOption, ◌↔◌, refl, sym, ap, subst, inl, inr, add-one, arith}
+use Rattle.std.proofs.lemmas.Bool.{cases_lt}
+use Rattle.std.proofs.lemmas.Bool.Decides.{nat_tests}
+use Rattle.std.proofs.lemmas.List.{drop_more}
+use Rattle.mx_glob.specs.Glob.{star, question}
+use Rattle.mx_glob.specs.Words.{character_before}
+use Rattle.mx_glob.specs.Leads.{takes, TakesAt, Agrees, IsPlain}
+
+pub IsPlain-push : (xs : List ℕ) (c : ℕ) → IsPlain xs → c == star ≡ false → IsPlain (xs ++ c ∷ [])
+IsPlain-push [] c plain h = (h, tt)
+IsPlain-push (x ∷ xs) c plain h = (plain.0, IsPlain-push xs c plain.1 h)
+
+takes-question : (here : ℕ) → takes question here ≡ true
+takes-question here = refl
+
+takes-same : (c : ℕ) → takes c c ≡ true
+takes-same c = grind (arith, nat_tests)
+
+takes-plain : (wanted here : ℕ) → wanted ≢ question → takes wanted here ≡ true → wanted ≡ here
+takes-plain wanted here other h = grind (arith, nat_tests)
+
+-- a '?' takes any character that is there
+pub TakesAt-question : (text : List ℕ) (k : ℕ) → k < length text → TakesAt text question k
+TakesAt-question [] k h = absurd (omega arith)
+TakesAt-question (x ∷ xs) zero h = refl
+TakesAt-question (x ∷ xs) (suc k) h = TakesAt-question xs k (omega arith)
+
+TakesOption : Option ℕ → ℕ → Type 0
+TakesOption o wanted = MatchOption o ⊥ (λ here. IsTrue (takes wanted here))
+
+pub TakesAt-found : (text : List ℕ) (wanted k : ℕ) → slice_get text k ≡ Some wanted → TakesAt text wanted k
+TakesAt-found text wanted k e = rw e (takes-same wanted)
+
+found : (o : Option ℕ) (wanted : ℕ) → wanted ≢ question → MatchOption o ⊥ (λ here. IsTrue (takes wanted here)) → o ≡ Some wanted
+found None wanted other h = absurd h
+found (Some here) wanted other h = ap Some (sym (takes-plain wanted here other h))
+
+-- any other character takes itself alone
+pub TakesAt-other : (text : List ℕ) (wanted k : ℕ) → wanted ≢ question → TakesAt text wanted k → slice_get text k ≡ Some wanted
+TakesAt-other text wanted k other h = found (slice_get text k) wanted other h
+
+-- one character of the segment more
+pub Agrees-open : (text segment : List ℕ) (i d k : ℕ) → i < length segment → Agrees text (drop i segment) k → TakesAt text (get_or segment i d) k × Agrees text (drop (i + 1) segment) (k + 1)
+Agrees-open text segment i d k h agrees = rw (drop_more segment i d h) at agrees
+
+pub Agrees-close : (text segment : List ℕ) (i d k : ℕ) → i < length segment → TakesAt text (get_or segment i d) k → Agrees text (drop (i + 1) segment) (k + 1) → Agrees text (drop i segment) k
+Agrees-close text segment i d k h here rest = rw (drop_more segment i d h) (here, rest)
+
+pub Agrees-step : (text segment : List ℕ) (i d place : ℕ) (All : Type 0) → i < length segment → All ↔ Agrees text (drop i segment) (place + i) → TakesAt text (get_or segment i d) (place + i) → All ↔ Agrees text (drop (i + 1) segment) (place + (i + 1))
+Agrees-step text segment i d place All h same here =
+    let e : place + (i + 1) ≡ place + i + 1 = omega arith in
+    rw e (
+      λ all. (Agrees-open text segment i d (place + i) h (same.0 all)).1,
+      λ rest. same.1 (Agrees-close text segment i d (place + i) h here rest),
+    )
+
+pub other_than_star : (c : ℕ) → c ≢ 42 → c == star ≡ false
+other_than_star c other = grind (arith, nat_tests)
+
+pub character_before-next : (text : List ℕ) (k : ℕ) → character_before text (k + 1) ≡ slice_get text k
+character_before-next text k = rw add-one refl
+
+-- what holds at none of the places before one, nor at that one
+pub none_below_next : (P : ℕ → Type 0) (n : ℕ) → ((j : ℕ) → j < n → P j → ⊥) → (P n → ⊥) → (j : ℕ) → j < n + 1 → P j → ⊥
+none_below_next P n below here j h holds =
+    elim (cases_lt j n) [
+      | inl before ↦ below j before holds
+      | inr at ↦ let e : j ≡ n = omega arith in here (subst P e holds)
+    ]

@@ -1,0 +1,40 @@
+-- How a search for a name skips places: ours, after Horspool.
+use Rattle.std.specs.Prelude.{◌≡◌, ℕ, ◌+◌, ◌-◌, ◌<◌, ◌≤◌, ◌%◌, ◌==◌, false, List, [], ◌∷◌, length, Option, Some, slice_get, slice_index}
+use Rattle.mx_glob.specs.Glob.{star, question}
+use Rattle.mx_glob.specs.Leads.{IsNameAt}
+use Rattle.mx_glob.specs.Words.{is_outside}
+
+-- For each of 64 classes of characters, how many places a search may go on where a character of the
+-- class stands at the end of the name's place: the name has no such character that near its end.
+pub record AreSkips (name skips : List ℕ) : Type 0 where
+  pub long : length skips ≡ 64
+  pub onward : (i : ℕ) → i < 64 → 1 ≤ slice_index skips i
+  pub within : (i : ℕ) → i < 64 → slice_index skips i ≤ length name
+  pub safe : (j c : ℕ) → j + 1 < length name → slice_get name j ≡ Some c
+      → slice_index skips (c % 64) + j + 1 ≤ length name
+
+-- A name that isn't empty is ready to be searched for: its ends, and the skips.
+pub record IsReady (name : List ℕ) (first : Option ℕ) (last : ℕ) (skips : List ℕ) : Type 0 where
+  pub some : 0 < length name
+  pub first_known : first ≡ slice_get name 0
+  pub last_known : slice_get name (length name - 1) ≡ Some last
+  pub skips_known : AreSkips name skips
+
+-- The name's last character stands at a place.
+abbrev pub EndsAt : List ℕ → List ℕ → ℕ → Type 0
+EndsAt text name end = slice_get text end ≡ slice_get name (length name - 1)
+
+-- Nowhere from one place on and before another does the name end that is a word there.
+abbrev pub NoneEnds : List ℕ → List ℕ → ℕ → ℕ → Type 0
+NoneEnds text name from past =
+    (j : ℕ) → from ≤ j + (length name - 1) → j + (length name - 1) < past → IsNameAt text name j → ⊥
+
+-- A pattern that is itself: it has no '*' and no '?'.
+abbrev pub IsLiteral : List ℕ → Type 0
+IsLiteral [] = Unit {0}
+IsLiteral (c ∷ rest) = (c == star ≡ false) × (c == question ≡ false) × IsLiteral rest
+
+-- A pattern that is itself and begins inside a word.
+pub record IsName (pattern : List ℕ) : Type 0 where
+  pub inside : is_outside (slice_get pattern 0) ≡ false
+  pub literal : IsLiteral pattern

@@ -1,0 +1,132 @@
+ghost use Rattle.std.specs.Prelude.{◌≡◌, ◌+◌, ◌*◌, ◌≤◌, ◌↔◌, length, IsTrue};
+ghost use Rattle.mx_json.specs.Gives.{Gives};
+ghost use Rattle.mx_json.specs.Folded.{RisesAtMost};
+ghost use Rattle.mx_glob.specs.Glob.{Matches};
+ghost use Rattle.mx_glob.specs.Reading.{reading};
+ghost use Rattle.mx_glob.specs.Words.{WordMatches};
+
+use crate::error::GlobError;
+use crate::place::agrees;
+use crate::rest::{End, leads_on, split_star};
+use crate::scratch::Scratch;
+use crate::search::has_word;
+use crate::skips::is_name;
+use crate::word::find_word;
+use mx_json::{Folded, Meter};
+use std::alloc::Global;
+use std::marker::Model;
+
+/// The most bytes of a pattern.
+const MOST_BYTES: usize = 1024;
+
+/// A glob pattern (Client-Server API v1.11, "Conditions for push rules", event_match): `*` matches
+/// any number of characters, `?` one, and every other character itself, case apart.
+#[derive(Debug, Drop)]
+pub struct Glob {
+    pattern: Folded,
+    // Whether a word match may search for the pattern as it stands.
+    is_name: bool,
+}
+
+// Contracts see the characters of the folded pattern.
+impl Model for Glob {
+    ghost use Rattle.std.specs.Prelude.{List, ℕ, ◌≤◌, length, IsTrue};
+    ghost use Rattle.mx_glob.specs.Search.{IsName};
+    ghost use Rattle.mx_glob.specs.declared.scratch.TheConstants.{MOST_CHARACTERS};
+
+    ghost Value = { List ℕ };
+
+    ghost view = { λ g. g.pattern };
+
+    ghost invariant = { λ g. (length g.pattern ≤ MOST_CHARACTERS)
+        × (IsTrue g.is_name → IsName g.pattern) };
+}
+
+impl Glob {
+    /// The glob of a pattern.
+    ///
+    /// # Errors
+    ///
+    /// `PatternTooLong` exactly where the pattern has more than 1,024 bytes, and `OutOfMemory`.
+    pub fn read(alloc: Global, pattern: &str) -> Result<Glob, GlobError>
+        ensures { Gives GlobError.OutOfMemory result (reading pattern.now) }
+    {
+        if pattern.len() > MOST_BYTES {
+            return Err(GlobError::PatternTooLong);
+        }
+        let pattern = Folded::of(alloc, pattern)?;
+        let is_name = is_name(&pattern);
+        Ok(Glob { pattern, is_name })
+    }
+
+    /// Whether the glob matches the whole value. It takes no memory.
+    pub fn whole(&self, value: &Folded, scratch: &mut Scratch, meter: &mut Meter) -> bool
+        ensures matches { IsTrue result ↔ Matches self.now value.now }
+        ensures reads { RisesAtMost
+            ((length self.now + 1) * (length value.now + 1))
+            meter.old
+            meter.new }
+    {
+        scratch.hold(&self.pattern, meter);
+        whole_of(scratch.held(self.pattern.len()), value, meter)
+    }
+
+    /// Whether the glob matches a word of the value: some part of it, the empty one included, with
+    /// no character of `A-Z a-z 0-9 _` just before and just after. It takes no memory.
+    pub fn word(&self, value: &Folded, scratch: &mut Scratch, meter: &mut Meter) -> bool
+        ensures matches { IsTrue result ↔ WordMatches self.now value.now }
+        ensures reads { RisesAtMost
+            ((length self.now + 1) * (length value.now + 1))
+            meter.old
+            meter.new }
+    {
+        if self.is_name {
+            return has_word(&self.pattern, value, meter);
+        }
+        scratch.hold(&self.pattern, meter);
+        word_of(scratch.held(self.pattern.len()), value, meter)
+    }
+}
+
+/// Whether the pattern matches the whole value.
+fn whole_of(pattern: &[char], value: &Folded, meter: &mut Meter) -> bool
+    ensures matches { IsTrue result ↔ Matches pattern.now value.now }
+    ensures reads { RisesAtMost
+        ((length pattern.now + 1) * length value.now + 1)
+        meter.old
+        meter.new }
+{
+    let Some((first, rest)) = split_star(pattern) else {
+        if pattern.len() != value.len() {
+            return false;
+        }
+        return agrees(pattern, value, 0, meter);
+    };
+    if first.len() > value.len() {
+        return false;
+    }
+    if !agrees(first, value, 0, meter) {
+        return false;
+    }
+    leads_on(rest, value, first.len(), End::Text, meter)
+}
+
+/// Whether the pattern matches a word of the value.
+fn word_of(pattern: &[char], value: &Folded, meter: &mut Meter) -> bool
+    ensures matches { IsTrue result ↔ WordMatches pattern.now value.now }
+    ensures reads { RisesAtMost
+        ((length pattern.now + 1) * length value.now + 1)
+        meter.old
+        meter.new }
+{
+    let Some((first, rest)) = split_star(pattern) else {
+        return find_word(pattern, value, true, meter).is_some();
+    };
+    if first.is_empty() {
+        return leads_on(rest, value, 0, End::Word, meter);
+    }
+    match find_word(first, value, false, meter) {
+        None => false,
+        Some(place) => leads_on(rest, value, place + first.len(), End::Word, meter),
+    }
+}

@@ -1,0 +1,64 @@
+ghost use Rattle.std.specs.Prelude.{◌≡◌, ◌-◌, ◌%◌, ◌<◌, ◌==◌, false, length, replicate, IsTrue, IfSome};
+ghost use Rattle.mx_json.specs.Folded.{RisesAtMost};
+ghost use Rattle.mx_glob.specs.Glob.{star, question};
+ghost use Rattle.mx_glob.specs.Search.{AreSkips, IsName};
+
+use crate::word::is_outside;
+use mx_json::{Folded, Meter};
+
+/// Whether a pattern is itself, without `*` and `?`, and begins inside a word.
+pub(crate) fn is_name(pattern: &Folded) -> bool
+    ensures { IsTrue result → IsName pattern.now }
+{
+    let mut meter = Meter::new();
+    if is_outside(pattern.at(0, &mut meter)) {
+        return false;
+    }
+    for k in 0..pattern.len() {
+        if !is_literal(pattern.at(k, &mut meter)) {
+            return false;
+        }
+    }
+    true
+}
+
+/// Whether a character of a pattern is itself.
+fn is_literal(character: Option<char>) -> bool
+    ensures { IsTrue result
+        → IfSome character (λ c. (c == star ≡ false) × (c == question ≡ false)) }
+{
+    match character {
+        None => true,
+        Some(c) => c != '*' && c != '?',
+    }
+}
+
+/// The skips of a search for the name; its last character isn't read.
+pub(crate) fn skips_of(name: &Folded, meter: &mut Meter) -> [u8; 64]
+    requires { 0 < length name.now }
+    ensures skips { AreSkips name.now result }
+    ensures reads { RisesAtMost (length name.now - 1) meter.old meter.new }
+{
+    let end = name.len() - 1;
+    let mut skips = all_skip(name.len().min(255) as u8);
+    for k in 0..end {
+        if let Some(character) = name.at(k, meter) {
+            skips[class_of(character)] = (end - k).min(255) as u8;
+        }
+    }
+    skips
+}
+
+/// The same skip for each class.
+fn all_skip(most: u8) -> [u8; 64]
+    ensures { result ≡ replicate 64 most }
+{
+    [most; 64]
+}
+
+/// The class of a character.
+pub(crate) fn class_of(character: char) -> usize
+    ensures { result ≡ character % 64 }
+{
+    (character as u32 % 64) as usize
+}
