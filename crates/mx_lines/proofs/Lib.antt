@@ -1,0 +1,4 @@
+pub mod CallerLemmas
+pub mod CuttingLemmas
+pub mod LinesLemmas
+pub mod RestingLemmas

@@ -1,0 +1,4 @@
+pub mod Buffers
+pub mod Cutting
+pub mod Lines
+pub mod Resting
