@@ -1,0 +1,82 @@
+//! Making a journal of what a disk holds.
+ghost use Rattle.std.specs.Prelude.{◌≡◌, ◌≢◌, ◌+◌, ◌<◌, ◌≤◌, ◌↔◌, List, ℕ, length, take, IfOk, OnOk, OnErr, IsErrOf, IsTrue, IfSome, Some};
+ghost use Rattle.mx_outside.specs.Told.{Rose};
+ghost use Rattle.mx_outside.specs.Disk.{Only, LeavesOnly};
+ghost use Rattle.mx_journal.specs.Image.{header, empty_journal};
+ghost use Rattle.mx_journal.specs.Reading.{OnlyReads};
+ghost use Rattle.mx_journal.specs.Opening.{IsLeftByOpening};
+
+use crate::JournalError;
+use crate::format::{CLOSED_GATE, EMPTY_JOURNAL, HEADER};
+use crate::read::read_gate;
+use mx_outside::{Disk, Failed};
+
+/// Makes sure that a journal begins here: tests a long disk for the header, and writes a short one.
+pub(crate) fn begin<D: Disk>(disk: &mut D) -> Result<(), JournalError>
+    ensures short { (content : List ℕ) → D.seen disk.old ≡ Some content → length content ≤ 17
+        → OnOk result (D.seen disk.new ≡ Some empty_journal) }
+    ensures long { (content : List ℕ) → D.seen disk.old ≡ Some content → 17 < length content → OnOk result (take 16 content ≡ header) }
+    ensures unwritten { (content : List ℕ) → D.seen disk.old ≡ Some content → 17 < length content → D.seen disk.new ≡ Some content }
+    ensures durable { (content : List ℕ) → D.seen disk.old ≡ Some content → Only content (D.may_leave disk.old)
+        → OnOk result (IfSome (D.seen disk.new) (λ now. Only now (D.may_leave disk.new))) }
+    ensures any_moment { (content : List ℕ) → D.seen disk.old ≡ Some content → Only content (D.may_leave disk.old)
+        → LeavesOnly D.moment D.left_since disk.old disk.new (IsLeftByOpening content) }
+    ensures not_a_journal { (content : List ℕ) (offset : ℕ) → D.seen disk.old ≡ Some content → IsErrOf result (JournalError.NotAJournal offset)
+        → (17 < length content) × (take 16 content ≢ header) × (offset ≡ 0) }
+    ensures stays { D.same_disk disk.old disk.new }
+    ensures count { D.faults disk.old ≤ D.faults disk.new }
+    ensures fault { IsErrOf result JournalError.DiskFault → Rose (D.faults disk.old) (D.faults disk.new) }
+    ensures memory { IsErrOf result JournalError.OutOfMemory → ⊥ }
+{
+    let size = disk.len()?;
+    if size > 17 {
+        if !has_header(disk)? {
+            return Err(JournalError::NotAJournal(0));
+        }
+    } else if !is_empty_journal(disk, size)? {
+        write_empty_journal(disk)?;
+    }
+    Ok(())
+}
+
+fn has_header<D: Disk>(disk: &mut D) -> Result<bool, Failed>
+    requires { IfSome (D.seen disk.old) (λ content. 16 ≤ length content) }
+    ensures value { (content : List ℕ) → D.seen disk.old ≡ Some content → IfOk result (λ has. IsTrue has ↔ (take 16 content ≡ header)) }
+    ensures only_reads { OnlyReads D.same_disk D.seen D.may_leave D.moment D.left_since D.faults disk.old disk.new }
+    ensures fault { OnErr result (Rose (D.faults disk.old) (D.faults disk.new)) }
+{
+    let mut front = [0u8; 16];
+    disk.read(0, &mut front)?;
+    Ok(front == HEADER)
+}
+
+fn is_empty_journal<D: Disk>(disk: &mut D, size: u64) -> Result<bool, Failed>
+    requires sized { IfSome (D.seen disk.old) (λ content. size ≡ length content) }
+    requires short { size ≤ 17 }
+    ensures value { (content : List ℕ) → D.seen disk.old ≡ Some content → IfOk result (λ is. IsTrue is ↔ (content ≡ empty_journal)) }
+    ensures only_reads { OnlyReads D.same_disk D.seen D.may_leave D.moment D.left_since D.faults disk.old disk.new }
+    ensures fault { OnErr result (Rose (D.faults disk.old) (D.faults disk.new)) }
+{
+    if size < 17 {
+        return Ok(false);
+    }
+    if !has_header(disk)? {
+        return Ok(false);
+    }
+    Ok(read_gate(disk, 16)? == CLOSED_GATE)
+}
+
+fn write_empty_journal<D: Disk>(disk: &mut D) -> Result<(), Failed>
+    ensures written { (content : List ℕ) → D.seen disk.old ≡ Some content → length content ≤ 17
+        → OnOk result (D.seen disk.new ≡ Some empty_journal) }
+    ensures durable { (content : List ℕ) → D.seen disk.old ≡ Some content → OnOk result (IfSome (D.seen disk.new) (λ now. Only now (D.may_leave disk.new))) }
+    ensures any_moment { (content : List ℕ) → D.seen disk.old ≡ Some content → length content ≤ 17 → Only content (D.may_leave disk.old)
+        → LeavesOnly D.moment D.left_since disk.old disk.new (λ image. length image ≤ 17) }
+    ensures stays { D.same_disk disk.old disk.new }
+    ensures count { D.faults disk.old ≤ D.faults disk.new }
+    ensures fault { OnErr result (Rose (D.faults disk.old) (D.faults disk.new)) }
+{
+    disk.write_at(0, &EMPTY_JOURNAL)?;
+    disk.sync()?;
+    Ok(())
+}
