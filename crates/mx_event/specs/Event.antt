@@ -1,0 +1,145 @@
+-- What an event of a room is and what is read off it: the fields of the Client-Server API's 'Room event format', in a profile of our own.
+use Rattle.std.specs.Prelude.{◌≡◌, ℕ, nat_le, Bool, true, false, if◌then◌else◌, List, [], ◌∷◌, length, codes, Option, Some, None, is_none, option_map, unwrap_or, Result, Ok, Err}
+use Rattle.std.specs.Option.{option_map_or}
+use Rattle.std.specs.Str.{bytes_eq}
+use Rattle.mx_json.specs.declared.value.Json.{Json, Null}
+use Rattle.mx_json.specs.Ids.{is_event_id, is_room_id, is_user_id}
+use Rattle.mx_json.specs.Json.{is_object, is_valid, member, text_at, text_of}
+use Rattle.mx_event.specs.declared.error.EventError.{EventError}
+use Rattle.mx_event.specs.declared.error.EventError.TheVariants.{BadEvent}
+use Rattle.mx_event.specs.declared.error.EventField.{EventField}
+use Rattle.mx_event.specs.declared.error.EventField.TheVariants.{EventId, RoomId, Sender, Kind, Content, StateKey}
+use Rattle.mx_event.specs.declared.relation.Relation.{Relation}
+use Rattle.mx_event.specs.declared.relation.Relation.TheVariants.{Thread, Other, Nothing}
+
+-- ---- the fields
+
+-- the text at this member, and the empty one where there is none
+abbrev pub text_or_empty : List ℕ → Json → List ℕ
+text_or_empty key json = unwrap_or (text_at key json) []
+
+abbrev pub event_id_of : Json → List ℕ
+event_id_of json = text_or_empty (codes "event_id") json
+
+abbrev pub room_id_of : Json → List ℕ
+room_id_of json = text_or_empty (codes "room_id") json
+
+abbrev pub sender_of : Json → List ℕ
+sender_of json = text_or_empty (codes "sender") json
+
+abbrev pub kind_of : Json → List ℕ
+kind_of json = text_or_empty (codes "type") json
+
+abbrev pub content_of : Json → Json
+content_of json = unwrap_or (member (codes "content") json) Null
+
+-- the state key of a state event; other events have none
+abbrev pub state_key_of : Json → Option (List ℕ)
+state_key_of json = text_at (codes "state_key") json
+
+-- ---- when a value is an event
+
+-- the text has at most 255 bytes
+abbrev pub is_short : List ℕ → Bool
+is_short text = nat_le (length text) 255
+
+-- the value is a text of at most 255 bytes
+abbrev pub is_short_text : Json → Bool
+is_short_text json = option_map_or is_short (text_of json) false
+
+-- the type is a text of at most 255 bytes
+abbrev pub has_kind : Json → Bool
+has_kind json = option_map_or is_short_text (member (codes "type") json) false
+
+-- the content is an object
+abbrev pub has_content : Json → Bool
+has_content json = option_map_or is_object (member (codes "content") json) false
+
+-- the state key is absent, or a text of at most 255 bytes
+abbrev pub has_state_key_or_none : Json → Bool
+has_state_key_or_none json = option_map_or is_short_text (member (codes "state_key") json) true
+
+abbrev pub fields_after_the_ids : Json → List (EventField × Bool)
+fields_after_the_ids json =
+    (Kind, has_kind json)
+    ∷ (Content, has_content json)
+    ∷ (StateKey, has_state_key_or_none json)
+    ∷ []
+
+-- each field in order, and whether it is right: what isn't an object has no event id
+unfoldable pub fields_of : Json → List (EventField × Bool)
+fields_of json =
+    (EventId, is_event_id (event_id_of json))
+    ∷ (RoomId, is_room_id (room_id_of json))
+    ∷ (Sender, is_user_id (sender_of json))
+    ∷ fields_after_the_ids json
+
+-- a value that is right, or that this field is wrong; for private clauses
+abbrev pub checked : {A : Type 0} → EventField → Bool → A → Result A EventError
+checked field is_right value = if is_right then Ok value else Err (BadEvent field)
+
+-- the first field that is wrong
+abbrev pub first_wrong : List (EventField × Bool) → Option EventField
+first_wrong [] = None
+first_wrong (field ∷ fields) = if field.1 then first_wrong fields else Some field.0
+
+unfoldable pub first_wrong_field : Json → Option EventField
+first_wrong_field json = first_wrong (fields_of json)
+
+-- a value is an event where no field is wrong
+abbrev pub is_event : Json → Bool
+is_event json = is_none (first_wrong_field json)
+
+-- the value as an event, or the first field that is wrong
+abbrev pub read_event : Json → Result Json EventError
+read_event json = option_map_or (λ field. Err (BadEvent field)) (first_wrong_field json) (Ok json)
+
+-- what an event holds: it is a valid event, and these are its ids
+pub record IsKept (json : Json) (event_id room_id sender : List ℕ) : Type 0 where
+  pub valid : is_valid json ≡ true
+  pub event : is_event json ≡ true
+  pub event_id_is : event_id ≡ event_id_of json
+  pub room_id_is : room_id ≡ room_id_of json
+  pub sender_is : sender ≡ sender_of json
+
+-- ---- what an event relates to
+
+pub data Related : Type 0 where
+  -- it is in the thread of the event with this id
+  in_thread : List ℕ → Related
+  -- it relates otherwise to the event with this id
+  to_another : List ℕ → Related
+  to_nothing : Related
+
+-- what an answer says
+abbrev pub related_by : Relation → Related
+related_by (Thread id) = in_thread id.now
+related_by (Other id) = to_another id.now
+related_by Nothing = to_nothing
+
+-- a relation `m.thread` to an event id, or a relation of another type to any text
+abbrev pub relation_from : Option (List ℕ) → Option (List ℕ) → Related
+relation_from (Some kind) (Some id) =
+    if bytes_eq kind (codes "m.thread") then (if is_event_id id then in_thread id else to_nothing) else to_another id
+relation_from (Some kind) None = to_nothing
+relation_from None id = to_nothing
+
+-- what the `m.relates_to` of an event's content says
+abbrev pub relation_in : Json → Related
+relation_in relates_to = relation_from (text_at (codes "rel_type") relates_to) (text_at (codes "event_id") relates_to)
+
+unfoldable pub relation_of : Json → Related
+relation_of json = option_map_or relation_in (member (codes "m.relates_to") (content_of json)) to_nothing
+
+-- ---- whom an event makes a member
+
+-- the membership that an event's content tells: `leave` where it tells none
+abbrev pub told_membership : Json → List ℕ
+told_membership json = unwrap_or (text_at (codes "membership") (content_of json)) (codes "leave")
+
+-- the state key and the membership of a state event `m.room.member`; other events have none
+unfoldable pub membership_of : Json → Option (List ℕ × List ℕ)
+membership_of json =
+    if bytes_eq (kind_of json) (codes "m.room.member")
+    then option_map (λ user. (user, told_membership json)) (state_key_of json)
+    else None

@@ -1,0 +1,170 @@
+ghost use Rattle.std.specs.Prelude.{◌≡◌, true, IfOk, option_map};
+ghost use Rattle.std.specs.Option.{option_copied};
+ghost use Rattle.mx_json.specs.Gives.{Gives};
+ghost use Rattle.mx_json.specs.Json.{is_valid};
+ghost use Rattle.mx_event.specs.Event.{content_of, event_id_of, is_event, kind_of, membership_of, read_event, related_by, relation_of, room_id_of, sender_of, state_key_of, told_membership};
+
+use crate::error::EventError;
+use crate::fields::{
+    event_id_in, first_wrong_after_the_ids, room_id_in, sender_in, text_at, text_or_empty,
+};
+use crate::relation::{Relation, relation_in};
+use mx_json::{EventId, Json, OutOfMemory, RoomId, UserId};
+use std::alloc::Global;
+use std::marker::Model;
+
+/// An event of a room, seen as the whole JSON object that it was made from.
+#[derive(Drop)]
+pub struct Event {
+    json: Json,
+    event_id: EventId,
+    room_id: RoomId,
+    sender: UserId,
+}
+
+impl Model for Event {
+    ghost use Rattle.mx_json.specs.declared.value.Json.{Json};
+
+    ghost Value = { Json };
+
+    ghost use Rattle.mx_json.specs.contracts.value.Json as whole;
+    ghost use Rattle.std.specs.Coded.{codes};
+
+    ghost coded = { Prim.hlevel (codes, whole.the_row.coded) };
+
+    ghost use Rattle.mx_event.specs.Event.{IsKept};
+
+    ghost view = { λ event. event.json };
+
+    ghost invariant = { λ event. IsKept event.json event.event_id event.room_id event.sender };
+}
+
+impl Event {
+    /// The event that a JSON value is.
+    ///
+    /// # Errors
+    ///
+    /// `BadEvent` with the first field that is missing or wrong, in the order of `EventField`; what
+    /// is no object has a wrong `event_id`. `OutOfMemory` where the allocator has none.
+    pub fn from_json(alloc: Global, json: Json) -> Result<Event, EventError>
+        requires { is_valid json ≡ true }
+        ensures { Gives EventError.OutOfMemory result (read_event json) }
+    {
+        let event_id = event_id_in(alloc, &json)?;
+        let room_id = room_id_in(alloc, &json)?;
+        let sender = sender_in(alloc, &json)?;
+        if let Some(field) = first_wrong_after_the_ids(&json) {
+            return Err(EventError::BadEvent(field));
+        }
+        Ok(Event {
+            json,
+            event_id,
+            room_id,
+            sender,
+        })
+    }
+
+    /// The event's id.
+    pub fn event_id(&self) -> &EventId
+        ensures { result.now ≡ event_id_of self.now }
+    {
+        &self.event_id
+    }
+
+    /// The id of its room.
+    pub fn room_id(&self) -> &RoomId
+        ensures { result.now ≡ room_id_of self.now }
+    {
+        &self.room_id
+    }
+
+    /// Who sent it.
+    pub fn sender(&self) -> &UserId
+        ensures { result.now ≡ sender_of self.now }
+    {
+        &self.sender
+    }
+
+    /// Its type, of at most 255 bytes.
+    pub fn kind(&self) -> &str
+        ensures { result.now ≡ kind_of self.now }
+    {
+        text_or_empty(&self.json, "type")
+    }
+
+    /// Its content, an object.
+    pub fn content(&self) -> &Json
+        ensures { result.now ≡ content_of self.now }
+    {
+        match self.json.member("content") {
+            Some(content) => content,
+            None => unreachable!(),
+        }
+    }
+
+    /// The state key of a state event, of at most 255 bytes; `None` exactly for other events.
+    pub fn state_key(&self) -> Option<&str>
+        ensures { option_copied result ≡ state_key_of self.now }
+    {
+        text_at(&self.json, "state_key")
+    }
+
+    /// The whole object.
+    pub fn json(&self) -> &Json
+        ensures whole { result.now ≡ self.now }
+        ensures valid { is_valid self.now ≡ true }
+        ensures event { is_event self.now ≡ true }
+    {
+        &self.json
+    }
+
+    /// What the `m.relates_to` of its content says (Client-Server API, 'Forming relationships
+    /// between events').
+    #[tactic(auto, unfolding(crate::specs::Event::relation_of))]
+    pub fn relation(&self) -> Relation<'_>
+        ensures { related_by result ≡ relation_of self.now }
+    {
+        match self.content().member("m.relates_to") {
+            Some(relates_to) => relation_in(relates_to),
+            None => Relation::Nothing,
+        }
+    }
+
+    /// The state key and the membership of a state event `m.room.member`: `content.membership` where
+    /// that is a text, else `leave`. `None` exactly for other events.
+    #[tactic(auto, unfolding(crate::specs::Event::membership_of))]
+    pub fn membership(&self) -> Option<(&str, &str)>
+        ensures { option_map (λ told. (told.0.now, told.1.now)) result ≡ membership_of self.now }
+    {
+        if self.kind() != "m.room.member" {
+            return None;
+        }
+        let user = self.state_key()?;
+        Some((user, self.told_membership()))
+    }
+
+    fn told_membership(&self) -> &str
+        ensures { result.now ≡ told_membership self.now }
+    {
+        match text_at(self.content(), "membership") {
+            Some(membership) => membership,
+            None => "leave",
+        }
+    }
+
+    /// An equal event of its own.
+    ///
+    /// # Errors
+    ///
+    /// `OutOfMemory` where the allocator has none.
+    pub fn copied(&self, alloc: Global) -> Result<Event, OutOfMemory>
+        ensures { IfOk result (λ event. event ≡ self.now) }
+    {
+        Ok(Event {
+            json: self.json.copied(alloc)?,
+            event_id: self.event_id.copied(alloc)?,
+            room_id: self.room_id.copied(alloc)?,
+            sender: self.sender.copied(alloc)?,
+        })
+    }
+}

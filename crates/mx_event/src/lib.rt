@@ -1,0 +1,17 @@
+//! Events of a room: what makes a JSON object one, and what is read off it.
+//!
+//! An event is seen as the JSON object that it was made from; each accessor answers the definition
+//! of its name over that object.
+#![tactic(auto)]
+
+mod error;
+mod event;
+mod fields;
+mod relation;
+
+pub use error::{EventError, EventField};
+pub use event::Event;
+pub use relation::Relation;
+
+#[cfg(test)]
+mod tests;
