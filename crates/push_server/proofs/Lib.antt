@@ -1,0 +1,10 @@
+pub mod InputLemmas
+pub mod LawsLemmas
+pub mod LinesLemmas
+pub mod ListLemmas
+pub mod ReplyLemmas
+pub mod RunsLemmas
+pub mod ServeLemmas
+pub mod StepLemmas
+pub mod TransferLemmas
+pub mod VerdictLemmas

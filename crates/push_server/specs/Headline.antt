@@ -1,0 +1,45 @@
+-- The main theorem: what a call of the server read and wrote is a lawful run that ends well. Ours.
+use Rattle.std.specs.Prelude.{◌≡◌, ℕ, ◌<◌, true, false, List, [], ◌++◌, length, Option, Some}
+use Rattle.push_server.specs.declared.status.Status.{Status}
+use Rattle.push_server.specs.declared.status.Status.TheVariants.{Done, Usage, ReadFault, WriteFault, OutOfMemory, InputLimit}
+use Rattle.push_server.specs.Status.{code_of}
+use Rattle.mx_engine.specs.History.{History}
+use Rattle.push_server.specs.Runs.{Run}
+use Rattle.push_server.specs.Laws.{IsLawful, EachAnswered}
+
+-- the run of a call: what the source had left and has now, what the sink had taken and has now, and the status
+pub record IsRunOf (left rest before after : List ℕ) (ending : Status) (run : Run) : Type 0 where
+  pub input : left ≡ run.input ++ rest
+  pub ended : run.ended ≡ true → rest ≡ []
+  pub output : after ≡ before ++ run.output
+  pub status : run.status ≡ Some (code_of ending)
+
+-- nothing is written before the source has ended
+abbrev pub AnswersAtEnd : Run → Type 0
+AnswersAtEnd run = run.ended ≡ false → run.output ≡ []
+
+-- with this limit of the input, the run may end with this status
+abbrev pub EndsWell : ℕ → Status → List ℕ → History → Run → Type 0
+EndsWell limit Done server h0 run = (run.ended ≡ true) × (length run.input < limit) × EachAnswered server h0 run
+EndsWell limit Usage server h0 run = ⊥
+EndsWell limit ReadFault server h0 run = (run.ended ≡ false) × (length run.input < limit) × (run.output ≡ [])
+EndsWell limit WriteFault server h0 run = (run.ended ≡ true) × (length run.input < limit)
+EndsWell limit OutOfMemory server h0 run = (length run.input < limit) × AnswersAtEnd run
+EndsWell limit InputLimit server h0 run = (run.ended ≡ false) × (length run.input ≡ limit) × (run.output ≡ [])
+
+-- what the call read and wrote, where both are told, is a lawful run that ends well
+pub record HasLawfulRun (limit : ℕ) (server : List ℕ) (h0 : History) (left : List ℕ) (left_now : Option (List ℕ)) (before : List ℕ) (taken_now : Option (List ℕ)) (status : Status) : Type 0 where
+  pub rest : List ℕ
+  pub left_told : left_now ≡ Some rest
+  pub after : List ℕ
+  pub taken_told : taken_now ≡ Some after
+  pub run : Run
+  pub is_run : IsRunOf left rest before after status run
+  pub lawful : IsLawful server h0 run
+  pub ends_well : EndsWell limit status server h0 run
+
+-- where the source tells what it has left and the sink what it took, the call has a lawful run
+abbrev pub HasLawfulRunOf : ℕ → List ℕ → History → Option (List ℕ) → Option (List ℕ) → Option (List ℕ) → Option (List ℕ) → Status → Type 0
+HasLawfulRunOf limit server h0 left_old left_now taken_old taken_now status =
+    (left : List ℕ) → left_old ≡ Some left → (before : List ℕ) → taken_old ≡ Some before
+    → HasLawfulRun limit server h0 left left_now before taken_now status

@@ -1,0 +1,51 @@
+ghost use Rattle.std.specs.Prelude.{◌≡◌};
+ghost use Rattle.std.specs.Option.{option_copied};
+
+/// How a call of the server ended.
+#[derive(Clone, Copy, Debug, PartialEq, Eq)]
+pub enum Status {
+    /// The input was read to its end, and each line has its reply.
+    Done,
+    /// The words aren't those of the command line.
+    Usage,
+    /// The source failed.
+    ReadFault,
+    /// The sink failed.
+    WriteFault,
+    /// There was no memory.
+    OutOfMemory,
+    /// The input has as many bytes as are taken.
+    InputLimit,
+}
+
+impl Status {
+    ghost use Rattle.push_server.specs.Status.{code_of, line_of};
+
+    /// The exit status of the program.
+    pub fn code(self) -> u8
+        ensures { result ≡ code_of self }
+    {
+        match self {
+            Status::Done => 0,
+            Status::Usage => 2,
+            Status::ReadFault => 3,
+            Status::WriteFault => 4,
+            Status::OutOfMemory => 7,
+            Status::InputLimit => 8,
+        }
+    }
+
+    /// The line for standard error, without its line feed. [`Status::Done`] has none.
+    pub fn line(self) -> Option<&'static str>
+        ensures { option_copied result ≡ line_of self }
+    {
+        match self {
+            Status::Done => None,
+            Status::Usage => Some("push_server: usage"),
+            Status::ReadFault => Some("push_server: read fault"),
+            Status::WriteFault => Some("push_server: write fault"),
+            Status::OutOfMemory => Some("push_server: out of memory"),
+            Status::InputLimit => Some("push_server: input limit"),
+        }
+    }
+}
