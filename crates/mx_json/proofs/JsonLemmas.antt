@@ -1,14 +1,15 @@
 -- The definitions over a value, level by level.
-use Rattle.std.proofs.Common.{◌≡◌, ℕ, ◌≤◌, nat_le, ℤ, Bool, true, List, [], ◌∷◌, map, Some, inl, inr, arith, rules}
+use Rattle.std.proofs.Common.{◌≡◌, ℕ, ◌≤◌, nat_le, ℤ, Bool, true, ◌&&◌, List, [], ◌∷◌, map, Some, inl, inr, sym, ◌∙◌, arith, rules}
 use Rattle.std.proofs.lemmas.Bool.{and_parts, and_from, cases_Bool, le-leb, leb-true}
 use Rattle.std.specs.List.{list_all}
-use Rattle.std.specs.Str.{bytes_eq}
-use Rattle.mx_json.specs.declared.value.Json.{Json, Whole, List as ListOf, Object, out-Json, roll-Json, roll-out-Json, the_lemmas}
+use Rattle.std.specs.Str.{bytes_eq, is_utf8}
+use Rattle.mx_json.specs.declared.value.Json.{Json, Whole, Text, List as ListOf, Object, out-Json, roll-Json, roll-out-Json, the_lemmas}
 use Rattle.mx_json.specs.declared.value.Json.TheOpen.{Json-F}
 use Rattle.mx_json.specs.declared.value.Json.TheVariants.{rolls-Object}
 use Rattle.mx_json.specs.declared.value.JsonList.{JsonList}
 use Rattle.mx_json.specs.declared.value.JsonObject.{JsonObject}
 use Rattle.mx_json.specs.Json.{depth_of, is_canonical, is_whole, list_depth, object_depth, is_canonical_list, is_canonical_object, member, member_in, top_pairs, is_valid, largest, are_rising}
+use Rattle.mx_json.specs.Utf8.{has_utf8, list_has_utf8, object_has_utf8}
 
 -- the pair, with f at its value
 abbrev pub with_value : {A B : Type 0} → (A → B) → List ℕ × A → List ℕ × B
@@ -28,6 +29,15 @@ is_canonical-Object object = search (rules, the_lemmas)
 
 pub is_canonical-Whole : (n : ℤ) → is_canonical (Whole n) ≡ is_whole n
 is_canonical-Whole n = search (rules, the_lemmas)
+
+pub has_utf8-Text : (text : List ℕ) → has_utf8 (Text text) ≡ is_utf8 text
+has_utf8-Text text = search (rules, the_lemmas)
+
+pub has_utf8-List : (list : JsonList) → has_utf8 (ListOf list) ≡ list_has_utf8 record { items = map has_utf8 list.items }
+has_utf8-List list = search (rules, the_lemmas)
+
+pub has_utf8-Object : (object : JsonObject) → has_utf8 (Object object) ≡ object_has_utf8 record { pairs = map (with_value has_utf8) object.pairs }
+has_utf8-Object object = search (rules, the_lemmas)
 
 -- what holds of each value holds of the value of the first pair with a key
 all_of_values : (f : Json → Bool) (key : List ℕ) (pairs : List (List ℕ × Json)) (json : Json) → list_all (λ pair. pair.1) (map (with_value f) pairs) ≡ true → member_in key pairs ≡ Some json → f json ≡ true
@@ -51,22 +61,39 @@ largest_of_values f key (pair ∷ pairs) json is =
       | inr differs ↦ let rest = largest_of_values f key pairs json (rw differs at is) in omega arith
     ]
 
--- a value is valid where both parts hold
-pub is_valid_from : (json : Json) → is_canonical json ≡ true → depth_of json ≤ 127 → is_valid json ≡ true
-is_valid_from json canonical within = and_from _ _ canonical (le-leb _ _ within)
+-- a value is valid where all three parts hold
+pub is_valid_from : (json : Json) → is_canonical json ≡ true → has_utf8 json ≡ true → depth_of json ≤ 127 → is_valid json ≡ true
+is_valid_from json canonical utf8 within = and_from _ _ canonical (and_from _ _ utf8 (le-leb _ _ within))
 
-pub is_valid_parts : (json : Json) → is_valid json ≡ true → (is_canonical json ≡ true) × (depth_of json ≤ 127)
+pub is_valid_parts : (json : Json) → is_valid json ≡ true → (is_canonical json ≡ true) × (has_utf8 json ≡ true) × (depth_of json ≤ 127)
 is_valid_parts json valid =
-    let parts = and_parts (is_canonical json) (nat_le (depth_of json) 127) valid in (parts.0, leb-true _ _ parts.1)
+    let parts = and_parts (is_canonical json) (has_utf8 json && nat_le (depth_of json) 127) valid in
+    let rest = and_parts (has_utf8 json) (nat_le (depth_of json) 127) parts.1 in
+    (parts.0, rest.0, leb-true _ _ rest.1)
+
+-- the value of the first pair with a key is UTF-8 where the pairs are
+utf8_of_pairs : (key : List ℕ) (pairs : List (List ℕ × Json)) (json : Json) → list_all (λ pair. is_utf8 pair.0 && pair.1) (map (with_value has_utf8) pairs) ≡ true → member_in key pairs ≡ Some json → has_utf8 json ≡ true
+utf8_of_pairs key [] json all is = cc
+utf8_of_pairs key (pair ∷ pairs) json all is =
+    let parts = and_parts (is_utf8 pair.0 && has_utf8 pair.1) (list_all (λ p. is_utf8 p.0 && p.1) (map (with_value has_utf8) pairs)) all in
+    let here = and_parts (is_utf8 pair.0) (has_utf8 pair.1) parts.0 in
+    elim (cases_Bool (bytes_eq pair.0 key)) [
+      | inl same ↦
+          let found : Some pair.1 ≡ Some json = rw same at is in
+          let at_json : has_utf8 json ≡ has_utf8 pair.1 = cc in
+          at_json ∙ here.1
+      | inr differs ↦ utf8_of_pairs key pairs json parts.1 (rw differs at is)
+    ]
 
 -- the members of a valid object are valid
 pub is_valid-member_in : (key : List ℕ) (object : JsonObject) (json : Json) → is_valid (Object object) ≡ true → member_in key object.pairs ≡ Some json → is_valid json ≡ true
 is_valid-member_in key object json valid is =
     let parts = is_valid_parts (Object object) valid in
     let canonical = rw is_canonical-Object at parts.0 in
+    let utf8 = sym (has_utf8-Object object) ∙ parts.1 in
     let each = and_parts (are_rising (map (λ pair. pair.0) (map (with_value is_canonical) object.pairs))) (list_all (λ pair. pair.1) (map (with_value is_canonical) object.pairs)) canonical in
     let largest_is = largest_of_values depth_of key object.pairs json is in
-    is_valid_from json (all_of_values is_canonical key object.pairs json each.1 is) (omega (arith, parts.1, depth_of-Object object))
+    is_valid_from json (all_of_values is_canonical key object.pairs json each.1 is) (utf8_of_pairs key object.pairs json utf8 is) (omega (arith, parts.2, depth_of-Object object))
 
 abbrev layers_valid : List ℕ → Json-F Json JsonList JsonObject → Json → Type 0
 layers_valid key layer json =

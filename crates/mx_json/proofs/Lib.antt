@@ -9,6 +9,7 @@ pub mod CanonicalLemmas
 pub mod ReadBackLemmas
 pub mod IdLemmas
 pub mod WholeLemmas
+pub mod ReadTextLemmas
 pub mod ReadingLemmas
 pub mod ValidLemmas
 pub mod Utf8Lemmas

@@ -183,7 +183,7 @@ read_as v text valid same =
     let parts = is_valid_parts v valid in
     let j = outline (data_of v) in
     ap (λ o. option_and_then of_json (option_and_then (λ p. json.if_last p.0 p.1) o))
-    (ap (json.value 127) (same ∙ sym (append-nil (tokens_of v))) ∙ value-json_tokens j 127 [] (omega (arith, parts.1, is_as_deep v, depth-outline (data_of v))))
+    (ap (json.value 127) (same ∙ sym (append-nil (tokens_of v))) ∙ value-json_tokens j 127 [] (omega (arith, parts.2, is_as_deep v, depth-outline (data_of v))))
     ∙ is_read v parts.0
 
 -- a text of the value's tokens is read as the value

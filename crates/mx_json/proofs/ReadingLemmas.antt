@@ -12,7 +12,8 @@ use Rattle.mx_json.specs.Gives.{Gives}
 use Rattle.mx_json.specs.Json.{is_valid}
 use Rattle.mx_json.proofs.ValidLemmas.{is_valid-json_of}
 use Rattle.mx_json.proofs.WholeLemmas.{whole_json-ok}
-use Rattle.mx_json.specs.Reading.{json_within, read_json, reading, whole_json}
+use Rattle.mx_json.specs.Reading.{json_of, json_within, read_json, reading, whole_json}
+use Rattle.mx_json.specs.Utf8.{has_utf8}
 
 cond_some_of : {A : Type 0} (b : Bool) (o : Option A) (a : A) → cond b o None ≡ Some a → o ≡ Some a
 cond_some_of true o a is = is
@@ -49,12 +50,12 @@ unfolding read_json json_within
 read_json-within bytes deepest d is within = rw (is, within)
 
 -- what is answered is valid
-pub is_valid-answer : (bytes : List ℕ) (deepest : ℕ) (d : Data) (answer : Result Json JsonError) → reading bytes ≡ Some d → nat_le (depth d) deepest ≡ true → deepest ≤ 127 → Gives OutOfMemory answer (whole_json d) → IfOk answer (λ json. is_valid json ≡ true)
-is_valid-answer bytes deepest d (Err error) is within small gives = tt
-is_valid-answer bytes deepest d (Ok json) is within small gives =
+pub is_valid-answer : (bytes : List ℕ) (deepest : ℕ) (d : Data) (answer : Result Json JsonError) → reading bytes ≡ Some d → has_utf8 (json_of d) ≡ true → nat_le (depth d) deepest ≡ true → deepest ≤ 127 → Gives OutOfMemory answer (whole_json d) → IfOk answer (λ json. is_valid json ≡ true)
+is_valid-answer bytes deepest d (Err error) is utf8 within small gives = tt
+is_valid-answer bytes deepest d (Ok json) is utf8 within small gives =
     let told = whole_json-ok d json gives in
     let deep = leb-true (depth d) deepest within in
-    subst (λ j. is_valid j ≡ true) told.1 (is_valid-json_of bytes d (reading-some bytes d is) told.0 (omega arith))
+    subst (λ j. is_valid j ≡ true) told.1 (is_valid-json_of bytes d (reading-some bytes d is) told.0 utf8 (omega arith))
 
 -- a refusal of the bytes is a refusal of the value
 pub tells_read : (bytes : List ℕ) (deepest : ℕ) (error : JsonError) → ((reading bytes ≡ None) × (error ≡ BadJson)) ⊎ (error ≡ OutOfMemory) → (read_json bytes deepest ≡ Err error) ⊎ (error ≡ OutOfMemory)

@@ -16,7 +16,6 @@ use Rattle.mx_json.specs.Canonical.{canonical}
 use Rattle.mx_json.specs.Json.{depth_of, is_whole, is_canonical, is_valid}
 use Rattle.mx_json.specs.Reading.{read_json}
 use Rattle.mx_json.specs.Tokens.{data_of, items_data, pairs_data, tokens_of}
-use Rattle.mx_json.specs.Utf8.{has_utf8}
 use Rattle.mx_json.proofs.CanonicalLemmas.{print-tokens_of}
 use Rattle.mx_json.proofs.DataLemmas.{data_of-Null, data_of-Truth, data_of-Whole, data_of-Text, data_of-List, data_of-Object}
 use Rattle.mx_json.proofs.Induction.{Each, EachValue, every}
@@ -60,8 +59,8 @@ is_numbered = every IsNumbered record {
 }
 
 -- the round trip of a value, so that no two values share a text
-pub read_json-canonical : (v : Json) (deepest : ℕ) → is_valid v ≡ true → has_utf8 v ≡ true → depth_of v ≤ deepest → read_json (canonical v) deepest ≡ Ok v
-read_json-canonical v deepest valid texts within =
-    let is = (is_valid_parts v valid).0 in
-    let lexed : tokens (canonical v) ≡ tokens_of v = ap tokens (sym (print-tokens_of v)) ∙ tokens-print (tokens_of v) (ArePrintable-json_tokens (outline (data_of v)) (is_numbered v is)) in
-    read_json-tokens v (canonical v) deepest valid within (IsUtf8-canonical v is texts) lexed
+pub read_json-canonical : (v : Json) (deepest : ℕ) → is_valid v ≡ true → depth_of v ≤ deepest → read_json (canonical v) deepest ≡ Ok v
+read_json-canonical v deepest valid within =
+    let parts = is_valid_parts v valid in
+    let lexed : tokens (canonical v) ≡ tokens_of v = ap tokens (sym (print-tokens_of v)) ∙ tokens-print (tokens_of v) (ArePrintable-json_tokens (outline (data_of v)) (is_numbered v parts.0)) in
+    read_json-tokens v (canonical v) deepest valid within (IsUtf8-canonical v parts.0 parts.1) lexed

@@ -8,26 +8,15 @@ use Rattle.std.specs.List.{join_with_byte, list_all}
 use Rattle.std.specs.Str.{is_utf8}
 use Rattle.json.specs.Print.{quoted}
 use Rattle.json.proofs.Printed.Utf8.{IsUtf8-are_ascii, IsUtf8-quoted}
-use Rattle.mx_json.specs.declared.value.Json.{Json, Null, Truth, Whole, Text, List as ListOf, Object, the_lemmas}
-use Rattle.mx_json.specs.declared.value.JsonList.{JsonList}
-use Rattle.mx_json.specs.declared.value.JsonObject.{JsonObject}
+use Rattle.mx_json.specs.declared.value.Json.{Json, Null, Truth, Whole, Text, the_lemmas}
 use Rattle.mx_json.specs.Canonical.{canonical, pair_text}
 use Rattle.mx_json.specs.Json.{is_canonical, is_whole}
-use Rattle.mx_json.specs.Utf8.{has_utf8, list_has_utf8, object_has_utf8}
+use Rattle.mx_json.specs.Utf8.{has_utf8}
 use Rattle.mx_json.proofs.CanonicalLemmas.{canonical-List, canonical-Object}
 use Rattle.mx_json.proofs.Induction.{Each, EachValue, every}
-use Rattle.mx_json.proofs.JsonLemmas.{with_value, is_canonical-List, is_canonical-Whole}
+use Rattle.mx_json.proofs.JsonLemmas.{with_value, has_utf8-Text, has_utf8-List, has_utf8-Object, is_canonical-List, is_canonical-Whole}
 use Rattle.mx_json.proofs.ReadBackLemmas.{largest_from_is_whole}
 use Rattle.mx_json.proofs.RisingLemmas.{canonical_object}
-
-pub has_utf8-Text : (text : List ℕ) → has_utf8 (Text text) ≡ is_utf8 text
-has_utf8-Text text = search (rules, the_lemmas)
-
-pub has_utf8-List : (list : JsonList) → has_utf8 (ListOf list) ≡ list_has_utf8 record { items = map has_utf8 list.items }
-has_utf8-List list = search (rules, the_lemmas)
-
-pub has_utf8-Object : (whole : JsonObject) → has_utf8 (Object whole) ≡ object_has_utf8 record { pairs = map (with_value has_utf8) whole.pairs }
-has_utf8-Object whole = search (rules, the_lemmas)
 
 canonical-Null : canonical Null ≡ 110 ∷ 117 ∷ 108 ∷ 108 ∷ []
 canonical-Null = search (rules, the_lemmas)

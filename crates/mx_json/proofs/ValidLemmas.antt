@@ -13,6 +13,7 @@ use Rattle.serde_json.specs.Read.{max_depth, number_of, of_items, of_json, of_me
 use Rattle.mx_json.specs.declared.value.Json.{Whole, the_lemmas}
 use Rattle.mx_json.specs.Json.{are_rising, depth_of, is_canonical, is_valid, largest}
 use Rattle.mx_json.specs.Reading.{all_whole, all_whole_items, all_whole_members, items_of, json_of, pairs_of, whole_of}
+use Rattle.mx_json.specs.Utf8.{has_utf8}
 use Rattle.mx_json.proofs.WholeLemmas.{whole_of-some}
 use Rattle.mx_json.proofs.JsonLemmas.{depth_of-List, depth_of-Object, is_canonical-List, is_canonical-Object, is_canonical-Whole, is_valid_from, with_value}
 
@@ -188,6 +189,6 @@ mutual
       and_from _ _ (is_canonical-json_of d parts.0 rises.0) (canonical-pairs_of ms parts.1 rises.1)
 
 -- what is read as a whole value is valid, where it is nested at most 127 deep
-pub is_valid-json_of : (bytes : List ℕ) (d : Data) → read bytes ≡ Some d → all_whole d ≡ true → depth d ≤ 127 → is_valid (json_of d) ≡ true
-is_valid-json_of bytes d is whole within =
-    is_valid_from (json_of d) (is_canonical-json_of d whole (Rises-read bytes d is)) (omega (arith, depth_of-json_of d))
+pub is_valid-json_of : (bytes : List ℕ) (d : Data) → read bytes ≡ Some d → all_whole d ≡ true → has_utf8 (json_of d) ≡ true → depth d ≤ 127 → is_valid (json_of d) ≡ true
+is_valid-json_of bytes d is whole utf8 within =
+    is_valid_from (json_of d) (is_canonical-json_of d whole (Rises-read bytes d is)) utf8 (omega (arith, depth_of-json_of d))

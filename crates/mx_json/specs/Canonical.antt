@@ -12,7 +12,8 @@ comma = 44
 abbrev pub colon : ℕ
 colon = 58
 
--- a plain value's own text; a list's or an object's text stands already
+-- A text is quoted: `"` and `\` stand behind a backslash, U+0008, U+000C, U+000A, U+000D and U+0009 are `\b`, `\f`, `\n`, `\r` and `\t`, other characters below U+0020 are `\u00` and two lower-case hexadecimal digits, and all else stands as itself.
+-- What stands between the brackets of a list or the braces of an object is told below.
 abbrev pub value_text : Json-F (List ℕ) (List ℕ) (List ℕ) → List ℕ
 value_text Json-F.Null = codes "null"
 value_text (Json-F.Truth truth) = if truth then codes "true" else codes "false"

@@ -8,6 +8,7 @@ use Rattle.mx_json.specs.declared.value.Json.{Json, out-Json, fold-Json}
 use Rattle.mx_json.specs.declared.value.Json.TheOpen.{Json-F, JsonList-F, JsonObject-F}
 use Rattle.mx_json.specs.declared.value.JsonList.{JsonList}
 use Rattle.mx_json.specs.declared.value.JsonObject.{JsonObject}
+use Rattle.mx_json.specs.Utf8.{has_utf8}
 
 -- ---- what a value holds
 
@@ -109,6 +110,6 @@ is_canonical = fold-Json Bool Bool Bool is_canonical_value is_canonical_list is_
 abbrev pub deepest_valid : ℕ
 deepest_valid = 127
 
--- a value is valid where it is canonical and nested at most 127 deep
+-- a value is valid where it is canonical, its texts are UTF-8, and it is nested at most 127 deep
 abbrev pub is_valid : Json → Bool
-is_valid json = is_canonical json && nat_le (depth_of json) deepest_valid
+is_valid json = is_canonical json && (has_utf8 json && nat_le (depth_of json) deepest_valid)

@@ -26,8 +26,8 @@ impl Json {
         requires { is_valid self.now ≡ true }
         ensures ok { OnOk result (out.new.items ≡ out.old.items ++ canonical self.now) }
         ensures err { OnErr result (out.new.items ≡ out.old.items) }
-        ensures reads_back { OnOk result ((deepest : ℕ) → depth_of self.now ≤ deepest
-            → read_json (canonical self.now) deepest ≡ Ok self.now) }
+        ensures reads_back { (deepest : ℕ) → depth_of self.now ≤ deepest
+            → read_json (canonical self.now) deepest ≡ Ok self.now }
     {
         let length = out.len();
         let mut writer = Writer::new(mem::replace(out, Vec::new(alloc)));

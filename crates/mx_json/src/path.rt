@@ -47,6 +47,15 @@ impl Path {
     }
 }
 
+impl Path {
+    /// The keys, in the order in which they lead into a value.
+    pub fn segments(&self) -> &[JsonText]
+        ensures { result.now ≡ self.now }
+    {
+        self.segments.as_slice()
+    }
+}
+
 impl Json {
     /// The value that a path leads to in a valid value, from object to member; lists aren't
     /// entered. `None` exactly where a segment names no member.
@@ -57,24 +66,26 @@ impl Json {
     {
         let mut here = self;
         for segment in path.segments.as_slice() {
-            here = valid_member(here, segment.as_str())?;
+            here = here.member_of_valid(segment.as_str())?;
         }
         Some(here)
     }
-}
 
-// The member of a valid value with this key, found by halving.
-fn valid_member<'a>(json: &'a Json, key: &str) -> Option<&'a Json>
-    requires { is_valid json.now ≡ true }
-    ensures { option_copied result ≡ member key.now json.now }
-{
-    match json {
-        Json::Object(object) => {
-            let pairs = object.pairs.as_slice();
-            let at = place_among_rising(pairs, key)?;
-            Some(&pairs[at].1)
+    /// The member of a valid value with this key, found by halving; `None` exactly where there is
+    /// none, or the value is no object.
+    pub fn member_of_valid(&self, key: &str) -> Option<&Json>
+        requires { is_valid self.now ≡ true }
+        ensures found { option_copied result ≡ member key.now self.now }
+        ensures valid { IfSome result (λ json. is_valid json.now ≡ true) }
+    {
+        match self {
+            Json::Object(object) => {
+                let pairs = object.pairs.as_slice();
+                let at = place_among_rising(pairs, key)?;
+                Some(&pairs[at].1)
+            }
+            _ => None,
         }
-        _ => None,
     }
 }
 

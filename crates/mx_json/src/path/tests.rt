@@ -27,7 +27,7 @@ fn segments_of_a_text(rt: HostRuntime) -> Result<(), Fail> {
         ("a\\", ["a\\"].as_slice()),
     ] {
         let path = Path::read(alloc, text)?;
-        let read = path.segments.as_slice();
+        let read = path.segments();
         assert_eq!(rt; read.len(), expected.len(), "at {text}");
         for (segment, wanted) in read.iter().zip(expected) {
             assert_eq!(rt; segment.as_str(), *wanted, "at {text}");

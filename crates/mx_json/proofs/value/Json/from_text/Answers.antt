@@ -2,6 +2,7 @@ use Rattle.std.proofs.Common.{inl, sym}
 use Rattle.std.proofs.lemmas.Result.{err_from_is_err_and}
 use Rattle.serde_json.specs.View.{view}
 use Rattle.mx_json.proofs.ReadingLemmas.{is_valid-answer, read_json-too_deep, read_json-within, tells_read}
+use Rattle.mx_json.proofs.ReadTextLemmas.{has_utf8-read}
 use Rattle.mx_json.proofs.value.Json.from_text.Goals as goal
 
 pub returns-in_err-value-clause-read : goal.returns-in_err-value-clause-read
@@ -22,4 +23,4 @@ returns-clause-read c =
 pub returns-clause-valid : goal.returns-clause-valid
 returns-clause-valid c =
     let within = sym c.if-not-nests_within.ensures in
-    is_valid-answer c.args.bytes.now c.args.deepest (view c.in_ok-value.value) c.whole_json.result c.in_ok-value.ensures within c.requires c.whole_json.ensures
+    is_valid-answer c.args.bytes.now c.args.deepest (view c.in_ok-value.value) c.whole_json.result c.in_ok-value.ensures (has_utf8-read c.in_ok-value.value) within c.requires c.whole_json.ensures

@@ -1,5 +1,4 @@
-use Rattle.std.proofs.Common.{◌≡◌, ◌<◌, ◌∙◌, sym, subst, length, get_or, arith}
-use Rattle.mx_json.proofs.JsonLemmas.{is_valid-member}
+use Rattle.std.proofs.Common.{◌≡◌, ◌<◌, ◌∙◌, subst, length, get_or, arith}
 use Rattle.mx_json.proofs.LookLemmas.{look_step}
 use Rattle.mx_json.proofs.value.Json.look.Goals as goal
 
@@ -12,4 +11,4 @@ loop-segment-preserved c =
     let items : c.as_slice-segment-items.result.now ≡ path = c.as_slice-segment-items.ensures ∙ c.path.view_is in
     let within : c.loop-segment.segment-index < length path = subst (λ xs. c.loop-segment.segment-index < length xs) items (omega arith) in
     let is : key ≡ get_or path c.loop-segment.segment-index key = cc in
-    (is_valid-member key here next c.loop-segment.invariant.0 (sym c.in_ok-here.ensures), c.loop-segment.invariant.1 ∙ look_step path c.loop-segment.segment-index key here next within is c.in_ok-here.ensures)
+    (c.in_ok-here.ensures.valid, c.loop-segment.invariant.1 ∙ look_step path c.loop-segment.segment-index key here next within is c.in_ok-here.ensures.found)
