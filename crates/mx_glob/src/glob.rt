@@ -59,7 +59,8 @@ impl Glob {
         Ok(Glob { pattern, is_name })
     }
 
-    /// Whether the glob matches the whole value. It takes no memory.
+    /// Whether the glob matches the whole value. It takes no memory. With p characters of the
+    /// folded pattern and v of the value it reads at most (p + 1)(v + 1) characters.
     pub fn whole(&self, value: &Folded, scratch: &mut Scratch, meter: &mut Meter) -> bool
         ensures matches { IsTrue result ↔ Matches self.now value.now }
         ensures reads { RisesAtMost
@@ -72,7 +73,8 @@ impl Glob {
     }
 
     /// Whether the glob matches a word of the value: some part of it, the empty one included, with
-    /// no character of `A-Z a-z 0-9 _` just before and just after. It takes no memory.
+    /// no character of `A-Z a-z 0-9 _` just before and just after. It takes no memory. With p
+    /// characters of the folded pattern and v of the value it reads at most (p + 1)(v + 1).
     pub fn word(&self, value: &Folded, scratch: &mut Scratch, meter: &mut Meter) -> bool
         ensures matches { IsTrue result ↔ WordMatches self.now value.now }
         ensures reads { RisesAtMost

@@ -118,7 +118,8 @@ fn character_at(
 
 /// Whether the name is a word of the value: some part of it, the empty one included, with no
 /// character of `A-Z a-z 0-9 _` just before and just after (Client-Server API v1.11, "Conditions
-/// for push rules", contains_display_name). It takes no memory.
+/// for push rules", contains_display_name). It takes no memory. With n characters of the name and v
+/// of the value it reads at most 2(n + 1)(v + 1).
 pub fn word_literal(name: &Folded, value: &Folded, meter: &mut Meter) -> bool
     ensures word { IsTrue result ↔ HasWord name.now value.now }
     ensures reads { RisesAtMost
