@@ -165,6 +165,14 @@ impl<D: Disk> Journal<D> {
         }
     }
 
+    /// Where the next gate stands, in bytes from 0: that of the record that is read next, or of the
+    /// first gate that isn't open.
+    pub fn gate(&self) -> u64
+        ensures { result ≡ self.now.gate }
+    {
+        self.gate
+    }
+
     /// Stages a payload for the next commit, in the place of one that is staged already.
     ///
     /// `TooLong` where the payload has more than 262,144 bytes, and `OutOfMemory` where there is

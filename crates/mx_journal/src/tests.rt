@@ -177,7 +177,7 @@ fn sevens(alloc: Global, count: usize) -> Result<Vec<u8>, AllocError> {
 fn added(alloc: Global, payload: &[u8]) -> Result<(Option<StageError>, MemoryDisk), Fail> {
     let mut journal = opened(alloc, memory(alloc, b"")?)?;
     let mut read = Vec::new(alloc);
-    if journal.next_record(&mut read)? || payload.is_empty() {
+    if journal.gate() != 16 || journal.next_record(&mut read)? || payload.is_empty() {
         return Err("no payload".into());
     }
     if journal.stage(b"replaced").is_err() {
