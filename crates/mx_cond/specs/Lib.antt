@@ -1,0 +1,5 @@
+pub mod Condition
+pub mod Facts
+pub mod Holds
+pub mod MemberCount
+pub mod PowerLevels

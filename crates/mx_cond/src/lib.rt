@@ -1,0 +1,23 @@
+//! Conditions of push rules: what makes a JSON value one, and when it holds of an event.
+//!
+//! A condition is seen as the JSON value that it was read from, and power levels as the content of
+//! their event, so that both are cited by definitions over plain data. Patterns are folded when a
+//! condition is read; the values that they are tried on are folded each time.
+#![tactic(auto)]
+
+mod condition;
+mod count;
+mod error;
+mod facts;
+mod plain;
+mod power;
+mod reading;
+mod wanted;
+
+pub use condition::Condition;
+pub use error::ConditionError;
+pub use facts::Facts;
+pub use power::PowerTable;
+
+#[cfg(test)]
+mod tests;
