@@ -1,5 +1,5 @@
 -- What an engine shows of a history, read off the list of its events.
-use Rattle.std.proofs.Common.{◌≡◌, ℕ, ◌+◌, suc, List, [], ◌∷◌, ◌++◌, length, Bool, true, false, cond, ◌&&◌, Option, Some, None, refl, ap, sym, ◌∙◌, arith}
+use Rattle.std.proofs.Common.{◌≡◌, ℕ, ◌+◌, suc, List, [], ◌∷◌, ◌++◌, length, Bool, true, false, cond, Option, Some, refl, ap, sym, ◌∙◌, arith}
 use Rattle.std.specs.Prelude.{map, filter, count_by, find, option_map, position}
 use Rattle.std.specs.List.{filter_map, position_from}
 use Rattle.std.proofs.Common.{length-append}
@@ -8,15 +8,14 @@ use Rattle.std.proofs.lemmas.List.Sums.{length-filter}
 use Rattle.std.proofs.lemmas.Iterator.Adapters.{position_from-zero}
 use Rattle.mx_json.specs.declared.value.Json.{Json}
 use Rattle.mx_event.specs.Event.{event_id_of}
-use Rattle.mx_engine.specs.declared.input.Input.{Input}
-use Rattle.mx_engine.specs.declared.input.Input.TheVariants.{Event}
-use Rattle.mx_engine.specs.declared.counts.Counts.{Counts}
-use Rattle.mx_engine.specs.declared.refusal.Refusal.TheVariants.{KnownEvent}
-use Rattle.mx_engine.specs.History.{History, Moment, Happening, inputs_of, place_number, moments_after, happening_of, events}
-use Rattle.mx_engine.specs.Judging.{highlights}
-use Rattle.mx_engine.specs.Counting.{is_unread, is_unread_event, counts_of}
-use Rattle.mx_engine.specs.Refusing.{is_named, position_of, refusal_of}
-use Rattle.mx_engine.specs.Snapshot.{Snapshot, snapshot_of}
+use Rattle.mx_records.specs.declared.input.Input.{Input}
+use Rattle.mx_records.specs.declared.input.Input.TheVariants.{Event}
+use Rattle.mx_records.specs.declared.refusal.Refusal.TheVariants.{KnownEvent}
+use Rattle.mx_records.specs.History.{History, Happening, inputs_of, place_number, moments_after, happening_of, events}
+use Rattle.mx_records.specs.Judging.{highlights}
+use Rattle.mx_records.specs.Counting.{is_unread, is_unread_event, counts_of}
+use Rattle.mx_records.specs.Refusing.{is_named, position_of, refusal_of}
+use Rattle.mx_records.specs.Snapshot.{Snapshot, snapshot_of}
 
 -- the event that an input is
 abbrev pub event_of : Input → Json

@@ -1,5 +1,7 @@
-pub mod History
-pub mod Judging
-pub mod Counting
-pub mod Refusing
-pub mod Snapshot
+pub use Rattle.mx_records.specs.History
+pub use Rattle.mx_records.specs.Judging
+pub use Rattle.mx_records.specs.Counting
+pub use Rattle.mx_records.specs.Refusing
+pub use Rattle.mx_records.specs.Snapshot
+pub mod Preparing
+pub mod View

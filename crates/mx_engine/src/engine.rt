@@ -1,12 +1,14 @@
 ghost use Rattle.std.specs.Prelude.{◌≡◌, ◌+◌, ◌<◌, ◌++◌, ◌∷◌, [], IfOk, OnOk, IfSome, length, count_by, position, option_map};
-ghost use Rattle.mx_engine.specs.History.{History, inputs_of};
-ghost use Rattle.mx_engine.specs.Counting.{is_unread_event, counts_of};
-ghost use Rattle.mx_engine.specs.Refusing.{is_named, IsPrepared};
-ghost use Rattle.mx_engine.specs.Snapshot.{snapshot_of};
+ghost use Rattle.mx_records.specs.History.{History, inputs_of};
+ghost use Rattle.mx_records.specs.Counting.{is_unread_event, counts_of};
+ghost use Rattle.mx_records.specs.Refusing.{is_named};
+ghost use Rattle.mx_engine.specs.Preparing.{IsPrepared};
+ghost use Rattle.mx_records.specs.Snapshot.{snapshot_of};
 
-use crate::{Counts, Input, Plan, PrepareError, Refusal};
+use crate::{Plan, PrepareError};
 use mx_event::Event;
 use mx_json::{OutOfMemory, RoomId, UserId};
+use mx_records::{Counts, Input, Questions, Refusal};
 use std::alloc::Global;
 use std::marker::Model;
 
@@ -19,7 +21,7 @@ pub struct Engine {
 }
 
 impl Model for Engine {
-    ghost use Rattle.mx_engine.specs.Snapshot.{View};
+    ghost use Rattle.mx_engine.specs.View.{View};
 
     ghost Value = { View };
 
@@ -103,6 +105,14 @@ impl Engine {
     }
 }
 
+impl Questions for Engine {
+    ghost snapshot = { λ engine. engine.shown };
+
+    fn counts(&self, user: &UserId, room: &RoomId) -> Counts {
+        Engine::counts(self, user, room)
+    }
+}
+
 /// How many of the events are unread for the user in the room.
 fn count_unread(events: &[Event], user: &str, room: &str) -> usize
     ensures { result ≡ count_by (is_unread_event user.now room.now) events.now }
@@ -114,7 +124,7 @@ fn count_unread(events: &[Event], user: &str, room: &str) -> usize
 }
 
 /// Whether the event is one of the room and notifies the user: a message notifies everybody but its sender.
-#[tactic(auto, unfolding(crate::specs::Judging::is_message_for))]
+#[tactic(auto, unfolding(mx_records::specs::Judging::is_message_for))]
 fn is_unread(event: &Event, user: &str, room: &str) -> bool
     ensures { result ≡ is_unread_event user.now room.now event.now }
 {

@@ -5,14 +5,11 @@
 //! of each history for which the engine stands.
 #![tactic(auto)]
 
-mod counts;
 mod engine;
-mod input;
+mod error;
 mod plan;
-mod refusal;
 
-pub use counts::Counts;
 pub use engine::Engine;
-pub use input::Input;
+pub use error::PrepareError;
+pub use mx_records::{Counts, Input, Refusal};
 pub use plan::Plan;
-pub use refusal::{PrepareError, Refusal};

@@ -8,7 +8,7 @@ pub struct Plan {
 }
 
 impl Model for Plan {
-    ghost use Rattle.mx_engine.specs.declared.input.Input.{Input};
+    ghost use Rattle.mx_records.specs.declared.input.Input.{Input};
 
     ghost Value = { Input };
 
@@ -17,7 +17,7 @@ impl Model for Plan {
 
     ghost coded = { Prim.hlevel (codes, whole.the_row.coded) };
 
-    ghost use Rattle.mx_engine.specs.declared.input.Input.TheVariants.{Event as EventInput};
+    ghost use Rattle.mx_records.specs.declared.input.Input.TheVariants.{Event as EventInput};
 
     ghost view = { λ plan. EventInput plan.event };
 }

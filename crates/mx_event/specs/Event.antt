@@ -79,7 +79,7 @@ abbrev pub checked : {A : Type 0} → EventField → Bool → A → Result A Eve
 checked field is_right value = if is_right then Ok value else Err (BadEvent field)
 
 -- the first field that is wrong
-abbrev pub first_wrong : List (EventField × Bool) → Option EventField
+abbrev pub first_wrong : {A : Type 0} → List (A × Bool) → Option A
 first_wrong [] = None
 first_wrong (field ∷ fields) = if field.1 then first_wrong fields else Some field.0
 

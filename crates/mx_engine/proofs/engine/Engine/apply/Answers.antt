@@ -1,6 +1,6 @@
 use Rattle.std.proofs.Common.{◌∙◌, ap, arith}
 use Rattle.std.proofs.lemmas.Grind.{common_steps}
-use Rattle.mx_engine.specs.Snapshot.{View}
+use Rattle.mx_engine.specs.View.{View}
 use Rattle.mx_engine.proofs.Shown.{length-shown, step-shown}
 use Rattle.mx_engine.proofs.engine.Engine.apply.Goals as goal
 

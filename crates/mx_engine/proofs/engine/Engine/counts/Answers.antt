@@ -1,5 +1,5 @@
 use Rattle.std.proofs.Common.{◌∙◌, ap}
-use Rattle.mx_engine.specs.Snapshot.{View}
+use Rattle.mx_engine.specs.View.{View}
 use Rattle.mx_engine.proofs.Shown.{counts-shown}
 use Rattle.mx_engine.proofs.engine.Engine.counts.Goals as goal
 

@@ -1,6 +1,6 @@
 use Rattle.std.proofs.Common.{◌∙◌, ap}
-use Rattle.mx_engine.specs.declared.input.Input.TheVariants.{Event}
-use Rattle.mx_engine.specs.Snapshot.{View}
+use Rattle.mx_records.specs.declared.input.Input.TheVariants.{Event}
+use Rattle.mx_engine.specs.View.{View}
 use Rattle.mx_engine.proofs.Shown.{refusal-found}
 use Rattle.mx_engine.proofs.engine.Engine.prepare_event.Goals as goal
 

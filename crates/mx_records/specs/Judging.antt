@@ -3,7 +3,7 @@ use Rattle.std.specs.Prelude.{ℕ, List, Bool, false, not, ◌&&◌, codes}
 use Rattle.std.specs.Str.{bytes_eq}
 use Rattle.mx_json.specs.declared.value.Json.{Json}
 use Rattle.mx_event.specs.Event.{kind_of, sender_of}
-use Rattle.mx_engine.specs.History.{Happening}
+use Rattle.mx_records.specs.History.{Happening}
 
 -- an event of type m.room.message that another user sent
 unfoldable pub is_message_for : List ℕ → Json → Bool

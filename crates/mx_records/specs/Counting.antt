@@ -3,9 +3,9 @@ use Rattle.std.specs.Prelude.{ℕ, List, Bool, ◌&&◌, length, filter, count_b
 use Rattle.std.specs.Str.{bytes_eq}
 use Rattle.mx_json.specs.declared.value.Json.{Json}
 use Rattle.mx_event.specs.Event.{room_id_of}
-use Rattle.mx_engine.specs.declared.counts.Counts.{Counts}
-use Rattle.mx_engine.specs.History.{History, Happening, events}
-use Rattle.mx_engine.specs.Judging.{is_message_for, notifies, highlights}
+use Rattle.mx_records.specs.declared.counts.Counts.{Counts}
+use Rattle.mx_records.specs.History.{History, Happening, events}
+use Rattle.mx_records.specs.Judging.{is_message_for, notifies, highlights}
 
 -- the event is one of the room
 abbrev pub is_in : List ℕ → Json → Bool

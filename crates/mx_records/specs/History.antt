@@ -2,8 +2,8 @@
 use Rattle.std.specs.Prelude.{ℕ, ◌+◌, List, [], ◌∷◌, ◌++◌, length, Option, Some}
 use Rattle.std.specs.List.{filter_map}
 use Rattle.mx_json.specs.declared.value.Json.{Json}
-use Rattle.mx_engine.specs.declared.input.Input.{Input}
-use Rattle.mx_engine.specs.declared.input.Input.TheVariants.{Event}
+use Rattle.mx_records.specs.declared.input.Input.{Input}
+use Rattle.mx_records.specs.declared.input.Input.TheVariants.{Event}
 
 -- A history is the list of the inputs that were accepted, oldest first.
 abbrev pub History : Type 0

@@ -1,33 +1,20 @@
 ghost use Rattle.std.specs.Prelude.{◌≡◌};
-ghost use Rattle.mx_engine.specs.declared.refusal.PrepareError.TheVariants.{OutOfMemory as WantOfMemory};
+ghost use Rattle.mx_engine.specs.declared.error.PrepareError.TheVariants.{OutOfMemory as WantOfMemory};
 
 use mx_json::OutOfMemory;
+use mx_records::Refusal;
 use std::alloc::AllocError;
 use std::error::Error;
 use std::fmt;
 
-/// Why an input is refused.
-#[derive(Clone, Copy, Debug, PartialEq, Eq)]
-pub enum Refusal {
-    /// The event id was accepted before, first at this position (from 1).
-    KnownEvent(u64),
-}
-
 /// Why an input was not prepared.
 #[derive(Clone, Copy, Debug, PartialEq, Eq)]
 pub enum PrepareError {
+    /// The history refuses it.
     Refused(Refusal),
+    /// The allocator had no memory.
     OutOfMemory,
 }
-
-impl fmt::Display for Refusal {
-    fn fmt<W: fmt::Write>(&self, f: &mut fmt::Formatter<W>) -> fmt::Result {
-        let Refusal::KnownEvent(position) = *self;
-        write!(f, "the event is known, at position {position}")
-    }
-}
-
-impl Error for Refusal {}
 
 impl fmt::Display for PrepareError {
     fn fmt<W: fmt::Write>(&self, f: &mut fmt::Formatter<W>) -> fmt::Result {
