@@ -62,6 +62,12 @@ CutsLast (Line bytes) held = (held.kept ≡ Some bytes.now) × (0 < length bytes
 CutsLast TooLong held = held.kept ≡ None
 CutsLast More held = held.kept ≡ Some []
 
+-- a line that a cut shows has no more bytes than a line may have
+abbrev pub IsShort : Cut → Type 0
+IsShort (Line bytes) = length bytes.now ≤ longest_line
+IsShort TooLong = Unit {0}
+IsShort More = Unit {0}
+
 -- the ended line that is held, as far as it is kept
 abbrev pub ended_line : Held → List (Option (List ℕ))
 ended_line held = if held.ended then held.kept ∷ [] else []

@@ -1,4 +1,9 @@
 pub mod Buffers
+pub mod Commands
 pub mod Cutting
+pub mod FieldNames
 pub mod Lines
+pub mod Replies
 pub mod Resting
+pub mod Verdict
+pub mod Words

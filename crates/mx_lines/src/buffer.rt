@@ -40,6 +40,7 @@ impl Model for LineBuffer {
 
 impl LineBuffer {
     ghost use Rattle.mx_lines.specs.Resting.{KeepsNothing};
+    ghost use Rattle.mx_lines.specs.Cutting.{IsShort};
 
     pub(crate) fn new(alloc: Global) -> Result<LineBuffer, OutOfMemory>
         ensures { IfOk result (λ buffer. buffer ≡ Some []) }
@@ -79,6 +80,7 @@ impl LineBuffer {
     pub(crate) fn give(&mut self) -> Cut<'_>
         ensures* after { sem 𝓛 (KeepsNothing self.entry) }
         ensures shows { Shows result self.old }
+        ensures short { IsShort result }
     {
         match self.content {
             Content::Part => {

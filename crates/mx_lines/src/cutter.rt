@@ -28,7 +28,7 @@ impl Model for LineCutter {
 }
 
 impl LineCutter {
-    ghost use Rattle.mx_lines.specs.Cutting.{nothing_held, taken_count, after_feed, CutsNext, CutsLast};
+    ghost use Rattle.mx_lines.specs.Cutting.{nothing_held, taken_count, after_feed, CutsNext, CutsLast, IsShort};
     ghost use Rattle.mx_lines.specs.Cutting.{HasGiven, IsNextLine, IsLastLine};
     ghost use Rattle.mx_lines.specs.Lines.{lines_of};
     ghost use Rattle.mx_lines.specs.Resting.{HoldsTheRest, HoldsNothing};
@@ -77,6 +77,7 @@ impl LineCutter {
     pub fn next(&mut self) -> Cut<'_>
         ensures* after { sem 𝓛 (HoldsTheRest self.entry result) }
         ensures cut { CutsNext result self.old }
+        ensures short { IsShort result }
         ensures lines { (bytes : List ℕ) (count : ℕ) → HasGiven self.old (lines_of bytes) count
             → IsNextLine result (lines_of bytes).whole count }
     {
@@ -94,6 +95,7 @@ impl LineCutter {
         requires { self.old.ended ≡ false }
         ensures* after { sem 𝓛 (HoldsNothing self.entry) }
         ensures cut { CutsLast result self.old }
+        ensures short { IsShort result }
         ensures lines { (bytes : List ℕ) (count : ℕ) → HasGiven self.old (lines_of bytes) count
             → IsLastLine result (lines_of bytes).rest }
     {

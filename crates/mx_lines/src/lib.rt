@@ -1,15 +1,25 @@
-//! Lines from bytes that come in pieces.
+//! Lines: how bytes that come in pieces are cut into them, what a line is read as, and what is replied.
 //!
 //! A [`LineCutter`] is fed pieces and gives their lines, which are the same however the bytes
 //! were cut: the definition of the lines of bytes (`specs/Lines.antt`) knows nothing of pieces.
-//! It holds the bytes of one longest line and takes no more memory.
+//! It holds the bytes of one longest line and takes no more memory. [`read`] gives a line's command by the table of
+//! commands (`specs/Commands.antt`), or its first refusal.
 #![tactic(auto)]
 
 mod buffer;
+mod command;
 mod cut;
 mod cutter;
+mod field_name;
+mod reading;
+mod reply;
 #[cfg(test)]
 mod tests;
+mod word;
 
+pub use command::{Command, Denial, LineError, LineRefusal};
 pub use cut::{Cut, LONGEST_LINE};
 pub use cutter::LineCutter;
+pub use field_name::FieldName;
+pub use reading::read;
+pub use reply::{denied_into, ok_into, reply_into};
