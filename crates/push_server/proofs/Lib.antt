@@ -1,10 +1,9 @@
-pub mod InputLemmas
 pub mod LawsLemmas
-pub mod LinesLemmas
 pub mod ListLemmas
-pub mod ReplyLemmas
 pub mod RunsLemmas
 pub mod ServeLemmas
+pub mod SessionLemmas
 pub mod StepLemmas
 pub mod TransferLemmas
 pub mod VerdictLemmas
+pub mod WordsLemmas

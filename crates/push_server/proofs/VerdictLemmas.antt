@@ -1,30 +1,60 @@
--- Lemmas on replies.
-use Rattle.std.proofs.Common.{◌≡◌, ℕ, true, List, ◌++◌, Result, OnOk, refl, ap, sym, ◌∙◌, subst}
-use Rattle.mx_engine.specs.declared.input.Input.{Input}
-use Rattle.mx_engine.specs.declared.refusal.Refusal.TheVariants.{KnownEvent}
-use Rattle.mx_engine.specs.History.{History}
-use Rattle.mx_engine.specs.Snapshot.{Snapshot, snapshot_of}
-use Rattle.push_server.specs.declared.command.Command.{Command}
-use Rattle.push_server.specs.declared.command.LineRefusal.{LineRefusal}
-use Rattle.push_server.specs.declared.command.LineRefusal.TheVariants.{BadLine, NotBuilt}
-use Rattle.push_server.specs.declared.command.Denial.{Denial}
-use Rattle.push_server.specs.declared.command.Denial.TheVariants.{Line, Input as Refused}
-use Rattle.push_server.specs.Command.{command_of}
-use Rattle.push_server.specs.Verdict.{Verdict, accepts, asks, denies, verdict_of, verdict_by, IsAnswered, reply_by, reply, after, ok_text, known_event_text, denied_text, counts_text}
-use Rattle.push_server.specs.Lines.{with_feed, IsOneLine}
+-- Lemmas on verdicts and replies.
+use Rattle.std.proofs.Common.{◌≡◌, ℕ, ◌<◌, ◌≤◌, Bool, true, false, cond, List, ◌++◌, Result, Ok, Err, Option, None, Some, is_some, Bor, OnOk, length, nat_lt, refl, ap, sym, ◌∙◌, subst, arith}
+use Rattle.std.specs.Option.{option_copied}
+use Rattle.std.proofs.lemmas.Bool.Decides.{nat_tests}
+use Rattle.mx_json.specs.Ids.{localpart_of}
+use Rattle.mx_records.specs.History.{History}
+use Rattle.mx_records.specs.Counting.{counts_of}
+use Rattle.mx_records.specs.Refusing.{is_local}
+use Rattle.mx_records.specs.declared.counts.Counts.{Counts}
+use Rattle.mx_records.specs.declared.refusal.Refusal.{Refusal}
+use Rattle.mx_records.specs.declared.refusal.Refusal.TheVariants.{NotLocal, KnownEvent}
+use Rattle.mx_records.specs.Snapshot.{Snapshot, snapshot_of}
+use Rattle.mx_lines.specs.declared.command.Command.{Command}
+use Rattle.mx_lines.specs.declared.command.Command.TheVariants.{Input as InputCommand, Counts as CountsCommand}
+use Rattle.mx_lines.specs.declared.command.LineRefusal.{LineRefusal}
+use Rattle.mx_lines.specs.declared.command.LineRefusal.TheVariants.{BadLine, NotWhole, BadField, NotBuilt}
+use Rattle.mx_lines.specs.declared.cut.Cut.TheVariants.{TooLong as LongCut}
+use Rattle.mx_lines.specs.declared.command.Denial.{Denial}
+use Rattle.mx_lines.specs.declared.command.Denial.TheVariants.{TooLong, Line, Input}
+use Rattle.mx_lines.specs.Commands.{command_of}
+use Rattle.mx_lines.specs.Cutting.{longest_line}
+use Rattle.mx_lines.specs.Lines.{with_feed}
+use Rattle.mx_lines.specs.Replies.{ok_text, line_refusal_text, refusal_text, denied_text, counts_text}
+use Rattle.mx_lines.specs.Verdict.{Verdict, verdict_of, verdict_by, unless_refused, after_verdict, reply_to, reply_by, reply, after}
+use Rattle.push_server.specs.Answered.{IsAnswered}
 use Rattle.push_server.specs.Runs.{is_answer}
+use Rattle.push_server.specs.Steps.{AnswersCut}
+
+is_answer-line_refusal : (refusal : LineRefusal) → is_answer (line_refusal_text refusal) ≡ true
+is_answer-line_refusal BadLine = refl
+is_answer-line_refusal NotWhole = refl
+is_answer-line_refusal (BadField field) = refl
+is_answer-line_refusal NotBuilt = refl
+
+is_answer-refusal : (refusal : Refusal) → is_answer (refusal_text refusal) ≡ true
+is_answer-refusal NotLocal = refl
+is_answer-refusal (KnownEvent position) = refl
 
 is_answer-denied : (denial : Denial) → is_answer (denied_text denial) ≡ true
-unfolding denied_text known_event_text
-is_answer-denied (Line BadLine) = refl
-is_answer-denied (Line NotBuilt) = refl
-is_answer-denied (Refused (KnownEvent position)) = refl
+unfolding denied_text
+is_answer-denied TooLong = refl
+is_answer-denied (Line refusal) = is_answer-line_refusal refusal
+is_answer-denied (Input refusal) = is_answer-refusal refusal
+
+is_answer-counts : (threads : Bool) (counts : Counts) → is_answer (counts_text threads counts) ≡ true
+unfolding counts_text
+is_answer-counts true counts = refl
+is_answer-counts false counts = refl
+
+is_answer-to : (h : History) (command : Command) → is_answer (reply_to h command) ≡ true
+unfolding ok_text
+is_answer-to h (InputCommand input) = refl
+is_answer-to h (CountsCommand user room threads) = is_answer-counts threads (counts_of h user room)
 
 is_answer-by : (h : History) (verdict : Verdict) → is_answer (reply_by h verdict) ≡ true
-unfolding ok_text counts_text
-is_answer-by h (accepts input) = refl
-is_answer-by h (asks user room) = refl
-is_answer-by h (denies denial) = is_answer-denied denial
+is_answer-by h (Ok command) = is_answer-to h command
+is_answer-by h (Err denial) = is_answer-denied denial
 
 -- a reply begins as an answer
 pub is_answer-reply : (server : List ℕ) (h : History) (line : List ℕ) → is_answer (reply server h line) ≡ true
@@ -36,14 +66,74 @@ pub served : (server : List ℕ) (h : History) (shown : Snapshot) → shown ≡ 
 unfolding snapshot_of
 served server h shown is = ap (λ (s : Snapshot). s.server) is
 
--- what was done about what the line was read as was done about the line
-pub answered_as_read : {T E : Type 0} (result : Result T E) (server name line : List ℕ) (h : History) (read : Result Command LineRefusal)
-    (shown : Snapshot) (before now : List ℕ) → name ≡ server → command_of name line ≡ read
-    → OnOk result (IsAnswered server h (verdict_by h read) shown before now)
-    → OnOk result (IsAnswered server h (verdict_of server h line) shown before now)
-answered_as_read result server name line h read shown before now same is answered =
-    subst (λ (command : Result Command LineRefusal). OnOk result (IsAnswered server h (verdict_by h command) shown before now))
-    (sym (sym (ap (λ own. command_of own line) same) ∙ is)) answered
+-- the name under which an engine that stands for a history is asked is that of its server
+pub named : (server name : List ℕ) (h : History) (shown : Snapshot) → shown ≡ snapshot_of server h → name ≡ shown.server → name ≡ server
+named server name h shown stands is = is ∙ served server h shown stands
+
+is_some-copied : (found : Option (Bor (List ℕ))) → is_some (option_copied found) ≡ is_some found
+is_some-copied None = refl
+is_some-copied (Some part) = refl
+
+-- a user is local where the look for the localpart found one
+pub is_local-found : (server name user : List ℕ) (found : Option (Bor (List ℕ))) (is : Bool) → name ≡ server
+    → option_copied found ≡ localpart_of name user → is_some found ≡ is → is_local server user ≡ is
+is_local-found server name user found is same copied test =
+    ap (λ own. is_some (localpart_of own user)) (sym same) ∙ (ap is_some (sym copied) ∙ (is_some-copied found ∙ test))
+
+verdict_by-counts : (server : List ℕ) (h : History) (user room : List ℕ) (threads is : Bool) → is_local server user ≡ is
+    → verdict_by server h (Ok (CountsCommand user room threads)) ≡ unless_refused (CountsCommand user room threads) (cond is None (Some NotLocal))
+verdict_by-counts server h user room threads is test =
+    ap (λ (b : Bool). unless_refused (CountsCommand user room threads) (cond b None (Some NotLocal))) test
+
+-- a question for a user who isn't local is refused
+pub verdict_by-remote : (server : List ℕ) (h : History) (command : Command) (user room : List ℕ) (threads : Bool) → command ≡ CountsCommand user room threads
+    → is_local server user ≡ false → verdict_by server h (Ok command) ≡ Err (Input NotLocal)
+verdict_by-remote server h command user room threads is remote =
+    ap (λ c. verdict_by server h (Ok c)) is ∙ verdict_by-counts server h user room threads false remote
+
+-- and one for a local user is followed
+pub verdict_by-local : (server : List ℕ) (h : History) (command : Command) (user room : List ℕ) (threads : Bool) → command ≡ CountsCommand user room threads
+    → is_local server user ≡ true → verdict_by server h (Ok command) ≡ Ok command
+verdict_by-local server h command user room threads is local =
+    ap (λ c. verdict_by server h (Ok c)) is ∙ (verdict_by-counts server h user room threads true local ∙ ap (λ c. Ok c) (sym is))
+
+by_test : {A : Type 0} (t u : Bool) (x y : A) → t ≡ u → cond t x y ≡ cond u x y
+by_test t u x y same = ap (λ (b : Bool). cond b x y) same
+
+-- a line that is too long is refused as such
+pub verdict_of-long : (server : List ℕ) (h : History) (line : List ℕ) → longest_line < length line → verdict_of server h line ≡ Err TooLong
+unfolding verdict_of
+verdict_of-long server h line long =
+    by_test (nat_lt longest_line (length line)) true (Err TooLong) (verdict_by server h (command_of line)) (grind (arith, nat_tests))
+
+-- the verdict on another line is that on what it is read as
+pub verdict_of-read : (server : List ℕ) (h : History) (line : List ℕ) (read : Result Command LineRefusal) → length line ≤ longest_line
+    → command_of line ≡ read → verdict_of server h line ≡ verdict_by server h read
+unfolding verdict_of
+verdict_of-read server h line read short is =
+    by_test (nat_lt longest_line (length line)) false (Err TooLong) (verdict_by server h (command_of line)) (grind (arith, nat_tests))
+    ∙ ap (verdict_by server h) is
+
+-- an answer with a verdict that is this one
+pub answered_as : {T E : Type 0} (result : Result T E) (server : List ℕ) (h : History) (verdict other : Verdict) (shown : Snapshot) (before now : List ℕ)
+    → verdict ≡ other → OnOk result (IsAnswered server h other shown before now) → OnOk result (IsAnswered server h verdict shown before now)
+answered_as result server h verdict other shown before now same answered =
+    subst (λ (v : Verdict). OnOk result (IsAnswered server h v shown before now)) (sym same) answered
+
+-- a refusal changes nothing
+pub answered_denied : {T E : Type 0} (result : Result T E) (server : List ℕ) (h : History) (denial : Denial) (shown : Snapshot) (before now : List ℕ)
+    → shown ≡ snapshot_of server h → OnOk result (now ≡ before ++ with_feed (denied_text denial))
+    → OnOk result (IsAnswered server h (Err denial) shown before now)
+answered_denied (Ok value) server h denial shown before now stands text = record { text = text; history = stands }
+answered_denied (Err error) server h denial shown before now stands text = tt
+
+-- an answer to a question changes nothing
+pub answered_question : {T E : Type 0} (result : Result T E) (server : List ℕ) (h : History) (command : Command) (user room : List ℕ) (threads : Bool)
+    (shown : Snapshot) (before now : List ℕ) → command ≡ CountsCommand user room threads → shown ≡ snapshot_of server h
+    → OnOk result (now ≡ before ++ with_feed (reply_to h command)) → OnOk result (IsAnswered server h (Ok command) shown before now)
+answered_question (Ok value) server h command user room threads shown before now is stands text =
+    record { text = text; history = stands ∙ ap (λ c. snapshot_of server (after_verdict h (Ok c))) (sym is) }
+answered_question (Err error) server h command user room threads shown before now is stands text = tt
 
 -- what was done about a line, in the words of the history
 pub reply-answered : (server line : List ℕ) (h : History) (shown : Snapshot) (before now : List ℕ)
@@ -51,12 +141,20 @@ pub reply-answered : (server line : List ℕ) (h : History) (shown : Snapshot) (
 unfolding reply
 reply-answered server line h shown before now answered = answered.text
 
-pub one_line-answered : (server line : List ℕ) (h : History) (shown : Snapshot) (before now : List ℕ)
-    → IsAnswered server h (verdict_of server h line) shown before now → IsOneLine (reply server h line)
-unfolding reply
-one_line-answered server line h shown before now answered = answered.one_line
-
 pub after-answered : (server line : List ℕ) (h : History) (shown : Snapshot) (before now : List ℕ)
     → IsAnswered server h (verdict_of server h line) shown before now → shown ≡ snapshot_of server (after server h line)
 unfolding after
 after-answered server line h shown before now answered = answered.history
+
+IsAnswered-too_long : (server : List ℕ) (h : History) (shown : Snapshot) (before now line : List ℕ) → longest_line < length line
+    → shown ≡ snapshot_of server h → now ≡ before ++ with_feed (denied_text TooLong) → IsAnswered server h (verdict_of server h line) shown before now
+IsAnswered-too_long server h shown before now line long stands text =
+    rw (verdict_of-long server h line long) (record { text = text; history = stands })
+
+-- what is said of every line that is too long
+pub answered_too_long : {T E : Type 0} (result : Result T E) (server : List ℕ) (h : History) (shown : Snapshot) (before now : List ℕ)
+    → shown ≡ snapshot_of server h → OnOk result (now ≡ before ++ with_feed (denied_text TooLong))
+    → OnOk result (AnswersCut server h LongCut shown before now)
+answered_too_long (Ok value) server h shown before now stands text =
+    λ line long. IsAnswered-too_long server h shown before now line long stands text
+answered_too_long (Err error) server h shown before now stands text = tt

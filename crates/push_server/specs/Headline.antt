@@ -1,11 +1,13 @@
 -- The main theorem: what a call of the server read and wrote is a lawful run that ends well. Ours.
-use Rattle.std.specs.Prelude.{◌≡◌, ℕ, ◌<◌, true, false, List, [], ◌++◌, length, Option, Some}
+use Rattle.std.specs.Prelude.{◌≡◌, ℕ, ◌<◌, ◌≤◌, true, false, List, [], ◌++◌, length, Option, Some}
 use Rattle.push_server.specs.declared.status.Status.{Status}
 use Rattle.push_server.specs.declared.status.Status.TheVariants.{Done, Usage, ReadFault, WriteFault, OutOfMemory, InputLimit}
 use Rattle.push_server.specs.Status.{code_of}
-use Rattle.mx_engine.specs.History.{History}
+use Rattle.mx_records.specs.History.{History}
 use Rattle.push_server.specs.Runs.{Run}
 use Rattle.push_server.specs.Laws.{IsLawful, EachAnswered}
+use Rattle.push_server.specs.Steps.{HaltsAt}
+use Rattle.push_server.specs.declared.halt.Halt.TheVariants as halt
 
 -- the run of a call: what the source had left and has now, what the sink had taken and has now, and the status
 pub record IsRunOf (left rest before after : List ℕ) (ending : Status) (run : Run) : Type 0 where
@@ -14,18 +16,19 @@ pub record IsRunOf (left rest before after : List ℕ) (ending : Status) (run : 
   pub output : after ≡ before ++ run.output
   pub status : run.status ≡ Some (code_of ending)
 
--- nothing is written before the source has ended
-abbrev pub AnswersAtEnd : Run → Type 0
-AnswersAtEnd run = run.ended ≡ false → run.output ≡ []
+-- the input stays below the limit, or reaches it before its end was seen
+pub record IsWithinLimit (limit : ℕ) (run : Run) : Type 0 where
+  pub within : length run.input ≤ limit
+  pub below : run.ended ≡ true → length run.input < limit
 
 -- with this limit of the input, the run may end with this status
 abbrev pub EndsWell : ℕ → Status → List ℕ → History → Run → Type 0
 EndsWell limit Done server h0 run = (run.ended ≡ true) × (length run.input < limit) × EachAnswered server h0 run
 EndsWell limit Usage server h0 run = ⊥
-EndsWell limit ReadFault server h0 run = (run.ended ≡ false) × (length run.input < limit) × (run.output ≡ [])
-EndsWell limit WriteFault server h0 run = (run.ended ≡ true) × (length run.input < limit)
-EndsWell limit OutOfMemory server h0 run = (length run.input < limit) × AnswersAtEnd run
-EndsWell limit InputLimit server h0 run = (run.ended ≡ false) × (length run.input ≡ limit) × (run.output ≡ [])
+EndsWell limit ReadFault server h0 run = (run.ended ≡ false) × (length run.input < limit) × EachAnswered server h0 run
+EndsWell limit WriteFault server h0 run = IsWithinLimit limit run × HaltsAt halt.WriteFault server h0 run
+EndsWell limit OutOfMemory server h0 run = IsWithinLimit limit run × HaltsAt halt.OutOfMemory server h0 run
+EndsWell limit InputLimit server h0 run = (run.ended ≡ false) × (length run.input ≡ limit) × EachAnswered server h0 run
 
 -- what the call read and wrote, where both are told, is a lawful run that ends well
 pub record HasLawfulRun (limit : ℕ) (server : List ℕ) (h0 : History) (left : List ℕ) (left_now : Option (List ℕ)) (before : List ℕ) (taken_now : Option (List ℕ)) (status : Status) : Type 0 where

@@ -1,7 +1,7 @@
 -- The laws that each output line of a run keeps, and lawful runs: ours.
 use Rattle.std.specs.Prelude.{◌≡◌, ℕ, true, false, ◌⊎◌, List, [], ◌++◌, length, Some, slice_get}
-use Rattle.mx_engine.specs.History.{History}
-use Rattle.push_server.specs.Verdict.{reply}
+use Rattle.mx_records.specs.History.{History}
+use Rattle.mx_lines.specs.Verdict.{reply}
 use Rattle.push_server.specs.Runs.{Run, point_at, point_now, input_lines, output_lines, begun, is_answer}
 
 -- this line is a turn that the server accepts, which none is while there are no turns

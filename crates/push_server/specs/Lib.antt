@@ -1,10 +1,8 @@
-pub mod Command
+pub mod Answered
 pub mod Headline
 pub mod Laws
-pub mod Lines
 pub mod Runs
 pub mod Status
 pub mod Steps
 pub mod Transfers
-pub mod Verdict
 pub mod Words

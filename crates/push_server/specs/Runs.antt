@@ -1,8 +1,8 @@
 -- A run of the server as plain data, and how far its output has taken the history: ours.
 use Rattle.std.specs.Prelude.{◌≡◌, ℕ, zero, suc, ◌+◌, Bool, true, false, ◌==◌, List, [], ◌∷◌, ◌++◌, length, Option, None, Some, slice_get, if◌then◌else◌}
-use Rattle.push_server.specs.Lines.{lines_of}
-use Rattle.mx_engine.specs.History.{History}
-use Rattle.push_server.specs.Verdict.{after}
+use Rattle.mx_lines.specs.Lines.{lines_of}
+use Rattle.mx_records.specs.History.{History}
+use Rattle.mx_lines.specs.Verdict.{after}
 
 -- one run, from its call on
 pub record Run : Type 0 where

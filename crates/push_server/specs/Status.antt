@@ -2,6 +2,8 @@
 use Rattle.std.specs.Prelude.{ℕ, List, Option, None, Some, codes}
 use Rattle.push_server.specs.declared.status.Status.{Status}
 use Rattle.push_server.specs.declared.status.Status.TheVariants.{Done, Usage, ReadFault, WriteFault, OutOfMemory, InputLimit}
+use Rattle.push_server.specs.declared.halt.Halt.{Halt}
+use Rattle.push_server.specs.declared.halt.Halt.TheVariants as halt
 
 -- the exit status as a number
 abbrev pub code_of : Status → ℕ
@@ -20,3 +22,8 @@ line_of ReadFault = Some (codes "push_server: read fault")
 line_of WriteFault = Some (codes "push_server: write fault")
 line_of OutOfMemory = Some (codes "push_server: out of memory")
 line_of InputLimit = Some (codes "push_server: input limit")
+
+-- the status with which a call ends that halts so
+abbrev pub status_of : Halt → Status
+status_of halt.OutOfMemory = OutOfMemory
+status_of halt.WriteFault = WriteFault

@@ -1,9 +1,16 @@
 -- What one step of a run leaves: ours.
-use Rattle.std.specs.Prelude.{◌≡◌, ℕ, ◌+◌, true, List, [], None, Result, Ok, Err}
-use Rattle.mx_engine.specs.History.{History}
-use Rattle.push_server.specs.Verdict.{after}
-use Rattle.mx_engine.specs.Snapshot.{Snapshot, snapshot_of}
-use Rattle.push_server.specs.Runs.{Run, begun, point_now, told, halted}
+use Rattle.std.specs.Prelude.{◌≡◌, ℕ, ◌<◌, List, [], length, slice_get, Some, Result, Ok, Err}
+use Rattle.mx_lines.specs.declared.cut.Cut.{Cut}
+use Rattle.mx_lines.specs.declared.cut.Cut.TheVariants.{Line, TooLong, More}
+use Rattle.mx_lines.specs.Lines.{lines_of}
+use Rattle.mx_lines.specs.Cutting.{longest_line, Held, HasGiven}
+use Rattle.mx_records.specs.History.{History}
+use Rattle.mx_records.specs.Snapshot.{Snapshot, snapshot_of}
+use Rattle.push_server.specs.declared.halt.Halt.{Halt}
+use Rattle.push_server.specs.declared.halt.Halt.TheVariants.{OutOfMemory, WriteFault}
+use Rattle.mx_lines.specs.Verdict.{verdict_of}
+use Rattle.push_server.specs.Answered.{IsAnswered}
+use Rattle.push_server.specs.Runs.{Run, input_lines, begun, point_now, told, halted}
 use Rattle.push_server.specs.Laws.{WholeLaws, IsLawful, EachAnswered}
 
 -- the run is lawful, stands at a line's end, and has taken the history to `now`
@@ -12,24 +19,63 @@ pub record Agrees (server : List ℕ) (h0 : History) (run : Run) (now : History)
   pub at_line_end : begun run ≡ []
   pub history : (point_now server h0 run).history ≡ now
 
--- after the run the state stands for the history `now`, and so many lines have their answer
-pub record GoesOn (server : List ℕ) (h0 : History) (run : Run) (now : History) (shown : Snapshot) (answered : ℕ) : Type 0 where
+-- after the run the state stands for its history, and so many lines have their answer
+pub record GoesOn (server : List ℕ) (h0 : History) (run : Run) (shown : Snapshot) (answered : ℕ) : Type 0 where
+  pub now : History
   pub agrees : Agrees server h0 run now
   pub stands : shown ≡ snapshot_of server now
   pub count : (point_now server h0 run).answered ≡ answered
 
--- the step for this line wrote `out`: its whole answer, or so much that the run may end there
-abbrev pub StepsPast : {T E : Type 0} → List ℕ → History → Run → History → List ℕ → Result T E → Snapshot → List ℕ → Type 0
-StepsPast server h0 run now line (Ok value) shown out =
-    GoesOn server h0 (told run out) (after server now line) shown ((point_now server h0 run).answered + 1)
-StepsPast server h0 run now line (Err error) shown out = (status : ℕ) → IsLawful server h0 (halted (told run out) status)
+-- the line that a cut shows is answered; where it shows none, nothing changes
+abbrev pub AnswersCut : List ℕ → History → Cut → Snapshot → List ℕ → List ℕ → Type 0
+AnswersCut server h (Line bytes) shown before now = IsAnswered server h (verdict_of server h bytes.now) shown before now
+AnswersCut server h TooLong shown before now =
+    (line : List ℕ) → longest_line < length line → IsAnswered server h (verdict_of server h line) shown before now
+AnswersCut server h More shown before now = (shown ≡ snapshot_of server h) × (now ≡ before)
 
--- the run that took this whole input and wrote this output
-abbrev pub run_of : List ℕ → List ℕ → Run
-run_of input output = record { input = input; ended = true; output = output; status = None }
+-- a line that the cut shows is the one after the first of these lines, so many
+abbrev pub ShowsNext : Cut → List (List ℕ) → ℕ → Type 0
+ShowsNext (Line bytes) lines count = slice_get lines count ≡ Some bytes.now
+ShowsNext TooLong lines count = (line : List ℕ) × (slice_get lines count ≡ Some line) × (longest_line < length line)
+ShowsNext More lines count = Unit {0}
 
--- the output to this whole input, over an empty history: all answers, or so much that the run may end there
-abbrev pub AnswersInput : {T E : Type 0} → List ℕ → List ℕ → Result T E → List ℕ → Type 0
-AnswersInput server input (Ok value) out =
-    ((status : ℕ) → IsLawful server [] (halted (run_of input out) status)) × EachAnswered server [] (run_of input out)
-AnswersInput server input (Err error) out = (status : ℕ) → IsLawful server [] (halted (run_of input out) status)
+-- The run may end where the answering halted so: want of memory cuts no answer short, and a fault leaves a line
+-- without its whole answer.
+abbrev pub HaltsAt : Halt → List ℕ → History → Run → Type 0
+HaltsAt OutOfMemory server h0 run = begun run ≡ []
+HaltsAt WriteFault server h0 run = (point_now server h0 run).answered < length (input_lines run)
+
+-- the run may end where it is
+abbrev pub MayEnd : List ℕ → History → Run → Type 0
+MayEnd server h0 run = (status : ℕ) → IsLawful server h0 (halted run status)
+
+-- the run is lawful where the answering halted
+pub record IsHalted (error : Halt) (server : List ℕ) (h0 : History) (run : Run) : Type 0 where
+  pub may_end : MayEnd server h0 run
+  pub halts : HaltsAt error server h0 run
+
+-- a step wrote `out`: after it so many lines have their answer, or it halted
+abbrev pub StepsTo : {T : Type 0} → List ℕ → History → Run → ℕ → Result T Halt → Snapshot → List ℕ → Type 0
+StepsTo server h0 run answered (Ok value) shown out = GoesOn server h0 (told run out) shown answered
+StepsTo server h0 run answered (Err error) shown out = IsHalted error server h0 (told run out)
+
+-- of these bytes each line that was cut has its answer, and the rest is held
+pub record AnswersUpTo (bytes : List ℕ) (server : List ℕ) (h0 : History) (run : Run) (shown : Snapshot) (held : Held) : Type 0 where
+  pub answered : ℕ
+  pub goes_on : GoesOn server h0 run shown answered
+  pub given : HasGiven held (lines_of bytes) answered
+
+-- the answers to the lines of a piece wrote `out`: all of them, or the answering halted
+abbrev pub AnswersPiece : {T : Type 0} → List ℕ → History → Run → Result T Halt → Snapshot → Held → List ℕ → Type 0
+AnswersPiece server h0 run (Ok value) shown held out = AnswersUpTo run.input server h0 (told run out) shown held
+AnswersPiece server h0 run (Err error) shown held out = IsHalted error server h0 (told run out)
+
+-- each line has its whole answer, and the run may end
+pub record IsAllAnswered (server : List ℕ) (h0 : History) (run : Run) : Type 0 where
+  pub may_end : MayEnd server h0 run
+  pub each : EachAnswered server h0 run
+
+-- the answer to the last line wrote `out`, or the answering halted
+abbrev pub AnswersAll : {T : Type 0} → List ℕ → History → Run → Result T Halt → List ℕ → Type 0
+AnswersAll server h0 run (Ok value) out = IsAllAnswered server h0 (told run out)
+AnswersAll server h0 run (Err error) out = IsHalted error server h0 (told run out)

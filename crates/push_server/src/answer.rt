@@ -1,48 +1,73 @@
-ghost use Rattle.std.specs.Prelude.{◌≡◌, OnOk};
-ghost use Rattle.mx_engine.specs.History.{History};
-ghost use Rattle.mx_engine.specs.Refusing.{refusal_of};
-ghost use Rattle.mx_engine.specs.Snapshot.{snapshot_of};
-ghost use Rattle.push_server.specs.Verdict.{verdict_of, verdict_by, unless_refused, IsAnswered};
+ghost use Rattle.std.specs.Prelude.{◌≡◌, ◌≤◌, length, Ok, OnOk};
+ghost use Rattle.mx_records.specs.History.{History};
+ghost use Rattle.mx_records.specs.Snapshot.{snapshot_of};
+ghost use Rattle.mx_lines.specs.Cutting.{longest_line, IsShort};
+ghost use Rattle.mx_lines.specs.Verdict.{verdict_of, verdict_by};
+ghost use Rattle.push_server.specs.Answered.{IsAnswered};
+ghost use Rattle.push_server.specs.Steps.{AnswersCut};
 
-use crate::command::{Command, Denial, LineError, LineRefusal};
-use crate::line::read_line;
-use crate::reply::{counts_into, denied_into, ok_into};
-use mx_engine::{Engine, Input, PrepareError};
+use mx_engine::{Engine, PrepareError};
 use mx_json::OutOfMemory;
+use mx_lines::{Command, Cut, Denial, LineError, denied_into, ok_into, read, reply_into};
+use mx_records::{Input, Refusal};
 use std::alloc::Global;
 
-/// Answers one line (without its line feed): the engine goes on with what it asks for, and its reply comes to the end
-/// of `out`, with its line feed. After an error nothing is said of either: the run ends.
+/// Answers the line that a cut shows, if it shows one: the engine goes on with what it asks for, and its reply comes
+/// to the end of `out`, with its line feed. After an error nothing is said of the engine: the run ends.
 pub fn answer(
+    alloc: Global,
+    engine: &mut Engine,
+    cut: Cut,
+    out: &mut Vec<u8>,
+) -> Result<(), OutOfMemory>
+    requires { IsShort cut }
+    ensures { (server : _) (h : History) → engine.old.shown ≡ snapshot_of server h
+        → OnOk result (AnswersCut server h cut.entry engine.new.shown out.old.items out.new.items) }
+{
+    match cut {
+        Cut::Line(line) => answer_line(alloc, engine, line, out),
+        Cut::TooLong => denied_into(&Denial::TooLong, out),
+        Cut::More => Ok(()),
+    }
+}
+
+/// Answers a line (without its line feed) that isn't too long.
+fn answer_line(
     alloc: Global,
     engine: &mut Engine,
     line: &[u8],
     out: &mut Vec<u8>,
 ) -> Result<(), OutOfMemory>
+    requires { length line.now ≤ longest_line }
     ensures { (server : _) (h : History) → engine.old.shown ≡ snapshot_of server h
         → OnOk result (IsAnswered server h (verdict_of server h line.now) engine.new.shown out.old.items out.new.items) }
 {
-    match read_line(alloc, engine.server(), line) {
-        Ok(command) => follow(alloc, engine, Ok(command), out),
-        Err(LineError::Refused(refusal)) => follow(alloc, engine, Err(refusal), out),
+    match read(alloc, line) {
+        Ok(command) => follow(alloc, engine, &command, out),
+        Err(LineError::Refused(refusal)) => denied_into(&Denial::Line(refusal), out),
         Err(LineError::OutOfMemory) => Err(OutOfMemory),
     }
 }
 
-/// Does what a command asks for, or refuses the line that has none, and appends the reply.
+/// Does what a command asks for, or refuses it, and appends the reply.
 fn follow(
     alloc: Global,
     engine: &mut Engine,
-    command: Result<Command, LineRefusal>,
+    command: &Command,
     out: &mut Vec<u8>,
 ) -> Result<(), OutOfMemory>
     ensures { (server : _) (h : History) → engine.old.shown ≡ snapshot_of server h
-        → OnOk result (IsAnswered server h (verdict_by h command) engine.new.shown out.old.items out.new.items) }
+        → OnOk result (IsAnswered server h (verdict_by server h (Ok command.now)) engine.new.shown out.old.items out.new.items) }
 {
     match command {
-        Ok(Command::Accept(input)) => accept(alloc, engine, &input, out),
-        Ok(Command::Counts(user, room)) => counts_into(engine.counts(&user, &room), out),
-        Err(refusal) => denied_into(Denial::Line(refusal), out),
+        Command::Input(input) => accept(alloc, engine, input, out),
+        Command::Counts { user, .. } => {
+            if user.localpart_on(engine.server()).is_none() {
+                denied_into(&Denial::Input(Refusal::NotLocal), out)
+            } else {
+                reply_into(&*engine, engine.server(), command, out)
+            }
+        }
     }
 }
 
@@ -54,11 +79,11 @@ fn accept(
     out: &mut Vec<u8>,
 ) -> Result<(), OutOfMemory>
     ensures { (server : _) (h : History) → engine.old.shown ≡ snapshot_of server h
-        → OnOk result (IsAnswered server h (unless_refused input.now (refusal_of h input.now)) engine.new.shown out.old.items out.new.items) }
+        → OnOk result (IsAnswered server h (verdict_by server h (Ok (Command.Input input.now))) engine.new.shown out.old.items out.new.items) }
 {
     match engine.prepare(alloc, input) {
         Ok(plan) => ok_into(engine.apply(plan), out),
-        Err(PrepareError::Refused(refusal)) => denied_into(Denial::Input(refusal), out),
+        Err(PrepareError::Refused(refusal)) => denied_into(&Denial::Input(refusal), out),
         Err(PrepareError::OutOfMemory) => Err(OutOfMemory),
     }
 }

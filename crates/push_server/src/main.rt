@@ -5,12 +5,10 @@
 #![tactic(auto)]
 
 mod answer;
-mod answering;
-mod command;
-mod line;
+mod halt;
 mod reading;
-mod reply;
 mod serve;
+mod session;
 mod standard_input;
 mod standard_output;
 mod status;

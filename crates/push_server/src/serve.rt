@@ -3,11 +3,11 @@ ghost use Rattle.mx_outside.specs.Told.{Rose};
 ghost use Rattle.push_server.specs.Words.{AreRunWords};
 ghost use Rattle.push_server.specs.Headline.{HasLawfulRunOf};
 
-use crate::answering::{AnswerError, answer_input};
-use crate::reading::{ReadError, read_input};
+use crate::reading::{piece_buffer, read_piece};
+use crate::session::Session;
 use crate::status::Status;
 use crate::words::server_of;
-use mx_outside::{Sink, Source};
+use mx_outside::{Got, Sink, Source};
 use std::alloc::Global;
 
 /// The most bytes of input that are taken.
@@ -21,8 +21,6 @@ pub fn serve_within<S: Source, K: Sink>(
     source: &mut S,
     sink: &mut K,
 ) -> Status
-    requires { 0 < limit }
-
     // The words decide, and for other words nothing is read or written.
     ensures usage { ((server : List ℕ) → AreRunWords (map string_bytes words.now) server → ⊥) → result ≡ Status.Usage }
     ensures only_usage { result ≡ Status.Usage → (server : List ℕ) → AreRunWords (map string_bytes words.now) server → ⊥ }
@@ -48,24 +46,15 @@ pub fn serve_within<S: Source, K: Sink>(
     let Some(server) = server_of(words) else {
         return Status::Usage;
     };
-    let input = match read_input(alloc, limit, source) {
-        Ok(input) => input,
-        Err(ReadError::OutOfMemory) => return Status::OutOfMemory,
-        Err(ReadError::Fault) => return Status::ReadFault,
-        Err(ReadError::Limit) => return Status::InputLimit,
-    };
-    match answer_input(alloc, server, input.as_slice(), sink) {
-        Ok(()) => Status::Done,
-        Err(AnswerError::OutOfMemory) => Status::OutOfMemory,
-        Err(AnswerError::WriteFault) => Status::WriteFault,
-    }
+    serve_lines(alloc, server, limit, source, sink)
 }
 
-/// Reads the whole input, then answers its lines in order, each reply on a line of its own.
+/// Answers the lines of the input as its pieces come, each reply on a line of its own.
 ///
 /// The words are those after the program's name: `run`, `--server` and the server's name. At
-/// most 1,073,741,824 bytes of input are taken. A last part without a line feed is a line. With
-/// [`Status::ReadFault`] and [`Status::InputLimit`] nothing is written.
+/// most 1,073,741,824 bytes of input are taken, in pieces of at most 65,536 bytes. A last part
+/// without a line feed is a line where the input ended. With [`Status::ReadFault`] and
+/// [`Status::InputLimit`] each line that ended before has its reply, and a part of a line has none.
 pub fn serve<S: Source, K: Sink>(
     alloc: Global,
     words: &[String],
@@ -91,4 +80,48 @@ pub fn serve<S: Source, K: Sink>(
         → (result ≡ Status.Done) ⊎ (result ≡ Status.OutOfMemory) }
 {
     serve_within(alloc, words, INPUT_LIMIT, source, sink)
+}
+
+/// Answers the lines of the source for the homeserver with this name, to the source's end, its fault or the limit.
+fn serve_lines<S: Source, K: Sink>(
+    alloc: Global,
+    server: &str,
+    limit: u64,
+    source: &mut S,
+    sink: &mut K,
+) -> Status
+    ensures served { result ≡ Status.Usage → ⊥ }
+    ensures lawful { HasLawfulRunOf limit server.now [] (S.left source.old) (S.left source.new) (K.taken sink.old) (K.taken sink.new) result }
+    ensures read { result ≡ Status.ReadFault → Rose (S.faults source.old) (S.faults source.new) }
+    ensures read_count { S.faults source.old ≤ S.faults source.new }
+    ensures write { result ≡ Status.WriteFault → Rose (K.faults sink.old) (K.faults sink.new) }
+    ensures write_count { K.faults sink.old ≤ K.faults sink.new }
+    ensures limit { (left : List ℕ) → S.left source.old ≡ Some left → result ≡ Status.InputLimit → limit ≤ length left }
+{
+    let Ok(mut session) = Session::new(alloc, server) else {
+        return Status::OutOfMemory;
+    };
+    let Ok(mut pieces) = piece_buffer(alloc) else {
+        return Status::OutOfMemory;
+    };
+    let buffer = pieces.as_mut_slice();
+    let mut room = limit;
+    while room > 0 {
+        match read_piece(source, buffer, room) {
+            Got::Bytes(count) => {
+                if let Err(halt) = session.answer_piece(alloc, &buffer[..count], sink) {
+                    return halt.status();
+                }
+                room -= count as u64;
+            }
+            Got::End => {
+                return match session.finish(alloc, sink) {
+                    Ok(()) => Status::Done,
+                    Err(halt) => halt.status(),
+                };
+            }
+            Got::Failed => return Status::ReadFault,
+        }
+    }
+    Status::InputLimit
 }

@@ -8,13 +8,13 @@ pub enum Status {
     Done,
     /// The words aren't those of the command line.
     Usage,
-    /// The source failed.
+    /// The source failed. Each line that ended before has its reply, and a part of a line has none.
     ReadFault,
-    /// The sink failed.
+    /// The sink failed, in the reply to a line.
     WriteFault,
-    /// There was no memory.
+    /// There was no memory. No reply is cut short.
     OutOfMemory,
-    /// The input has as many bytes as are taken.
+    /// The input has as many bytes as are taken. Each line that ends in them has its reply.
     InputLimit,
 }
 

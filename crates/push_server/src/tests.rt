@@ -1,39 +1,10 @@
+mod refusals;
 mod serving;
 
-use crate::reading::{ReadError, read_input};
 use crate::words::server_of;
 use crate::writing::write_all;
-use mx_outside::{BytesSource, FailingSource, VecSink};
-use std::alloc::{AllocError, Global};
+use mx_outside::VecSink;
 use std::test::Fail;
-
-/// `abcdefg` in pieces of one and two bytes, and then of as many as fit.
-fn letters(alloc: Global) -> Result<BytesSource, AllocError> {
-    Ok(BytesSource::new(b"abcdefg".to_vec(alloc)?, [1, 2].to_vec(alloc)?))
-}
-
-#[test]
-fn an_input_is_read_to_its_end_its_limit_or_its_fault(rt: HostRuntime) -> Result<(), Fail> {
-    let alloc = rt.alloc();
-    let cases = [
-        (8, Ok("abcdefg")),
-        (7, Err(ReadError::Limit)),
-        (1, Err(ReadError::Limit)),
-    ];
-    for (limit, expected) in cases {
-        let mut source = letters(alloc)?;
-        match (read_input(alloc, limit, &mut source), expected) {
-            (Ok(input), Ok(text)) => assert_eq!(rt; input.as_slice(), text.as_bytes()),
-            (Err(error), Err(cause)) => assert_eq!(rt; error, cause),
-            _ => panic!(rt; "at a limit of {limit}"),
-        }
-    }
-
-    let mut source = FailingSource::new(letters(alloc)?, [2].to_vec(alloc)?);
-    let read = read_input(alloc, 8, &mut source);
-    assert!(rt; matches!(read, Err(ReadError::Fault)));
-    Ok(())
-}
 
 #[test]
 fn a_text_is_written_whole(rt: HostRuntime) -> Result<(), Fail> {
@@ -46,28 +17,56 @@ fn a_text_is_written_whole(rt: HostRuntime) -> Result<(), Fail> {
     Ok(())
 }
 
+/// Words of the command line, with a blank between each two, and the server's name that they give.
+#[rattlefmt::skip]
+const SPELLINGS: [(&str, Option<&str>); 26] = [
+    ("run --server example.org", Some("example.org")),
+    ("run --server=example.org", Some("example.org")),
+    ("run --server example.org --", Some("example.org")),
+    ("run --server=example.org --", Some("example.org")),
+    ("run --server [::1]:8448", Some("[::1]:8448")),
+    ("run --server=MATRIX-2.Example", Some("MATRIX-2.Example")),
+    // Missing, empty or misspelled.
+    ("", None),
+    ("run", None),
+    ("run --", None),
+    ("run --server", None),
+    ("run --server ", None),
+    ("run --server=", None),
+    ("run --server --", None),
+    ("run --server -x", None),
+    ("run --server=-x", None),
+    ("run --server a_b", None),
+    ("run --server=a=b", None),
+    ("check --server example.org", None),
+    ("--server example.org run", None),
+    ("run --Server example.org", None),
+    ("run --serv example.org", None),
+    ("run -server example.org", None),
+    // Twice, or with more words.
+    ("run --server a --server a", None),
+    ("run --server=a --server=a", None),
+    ("run -- --server example.org", None),
+    ("run --server example.org -- --", None),
+];
+
 #[test]
-fn a_name_follows_run_and_server(rt: HostRuntime) -> Result<(), Fail> {
+fn words_in_each_spelling(rt: HostRuntime) -> Result<(), Fail> {
     let alloc = rt.alloc();
-    let cases = [
-        (["run", "--server", "example.org"], true),
-        (["run", "--server", "[::1]:8448"], true),
-        (["run", "--server", "MATRIX-2.Example"], true),
-        (["run", "--server", ""], false),
-        (["run", "--server", "a_b"], false),
-        (["run", "--server", "a b"], false),
-        (["--server", "run", "example.org"], false),
-        (["check", "--server", "example.org"], false),
-        (["run", "--Server", "example.org"], false),
-    ];
-    for (spelling, taken) in cases {
+    for (spelling, server) in SPELLINGS {
         let mut words = Vec::new(alloc);
-        for word in spelling {
+        for word in spelling.split(' ') {
             words.push(String::from_str(alloc, word)?)?;
         }
-        assert_eq!(rt; server_of(&words).is_some(), taken, "{}", spelling[2]);
-        words.push(String::from_str(alloc, "more")?)?;
-        assert!(rt; server_of(&words).is_none());
+        assert_eq!(rt; server_of(&words), server, "{spelling}");
+    }
+    for (length, taken) in [(200, true), (201, false)] {
+        let name = "a".repeat(alloc, length)?;
+        let words = [
+            String::from_str(alloc, "run")?,
+            format!(in alloc; "--server={name}")?,
+        ];
+        assert_eq!(rt; server_of(&words).is_some(), taken, "{length}");
     }
     Ok(())
 }

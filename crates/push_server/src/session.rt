@@ -1,0 +1,106 @@
+ghost use Rattle.std.specs.Prelude.{◌≡◌, ℕ, ◌+◌, ◌≤◌, ◌++◌, false, true, List, [], IfOk, OnOk};
+ghost use Rattle.mx_lines.specs.Cutting.{nothing_held, IsShort, shown_count};
+ghost use Rattle.mx_outside.specs.Told.{Writes, Rose};
+ghost use Rattle.mx_records.specs.History.{History};
+ghost use Rattle.mx_records.specs.Snapshot.{snapshot_of};
+ghost use Rattle.push_server.specs.Runs.{Run, input_lines};
+ghost use Rattle.push_server.specs.Steps.{GoesOn, ShowsNext, StepsTo, AnswersUpTo, AnswersPiece, AnswersAll};
+
+use crate::answer::answer;
+use crate::halt::Halt;
+use crate::writing::write_all;
+use mx_engine::Engine;
+use mx_json::OutOfMemory;
+use mx_lines::{Cut, LineCutter};
+use mx_outside::Sink;
+use std::alloc::Global;
+
+/// One run of the server, between two pieces of its input.
+#[derive(Drop)]
+pub struct Session {
+    engine: Engine,
+    lines: LineCutter,
+    reply: Vec<u8>,
+}
+
+impl Session {
+    /// The run of the homeserver with this name, before any input.
+    pub fn new(alloc: Global, server: &str) -> Result<Session, OutOfMemory>
+        ensures engine { IfOk result (λ session. session.engine.shown ≡ snapshot_of server.now []) }
+        ensures lines { IfOk result (λ session. session.lines ≡ nothing_held) }
+    {
+        Ok(Session {
+            engine: Engine::new(alloc, server)?,
+            lines: LineCutter::new(alloc)?,
+            reply: Vec::new(alloc),
+        })
+    }
+
+    /// Answers each line that ends in this piece, and keeps the part of a line that follows.
+    pub fn answer_piece<K: Sink>(
+        &mut self,
+        alloc: Global,
+        piece: &[u8],
+        sink: &mut K,
+    ) -> Result<(), Halt>
+        requires { self.old.lines.ended ≡ false }
+        ensures ready { OnOk result (self.new.lines.ended ≡ false) }
+        ensures extends { (server : List ℕ) (h0 : History) (run : Run) (bytes : List ℕ)
+            → run.input ≡ bytes ++ piece.now → AnswersUpTo bytes server h0 run self.old.engine.shown self.old.lines
+            → Writes (K.taken sink.old) (K.taken sink.new) (AnswersPiece server h0 run result self.new.engine.shown self.new.lines) }
+        ensures count { K.faults sink.old ≤ K.faults sink.new }
+        ensures fault { result ≡ Err Halt.WriteFault → Rose (K.faults sink.old) (K.faults sink.new) }
+    {
+        let mut at = 0;
+        while at < piece.len() {
+            at += self.lines.feed(&piece[at..]);
+            answer_cut(
+                alloc,
+                &mut self.engine,
+                self.lines.next(),
+                &mut self.reply,
+                sink,
+            )?;
+        }
+        Ok(())
+    }
+
+    /// Answers what follows the last line feed, unless that is nothing.
+    pub fn finish<K: Sink>(&mut self, alloc: Global, sink: &mut K) -> Result<(), Halt>
+        requires { self.old.lines.ended ≡ false }
+        ensures extends { (server : List ℕ) (h0 : History) (run : Run) → run.ended ≡ true
+            → AnswersUpTo run.input server h0 run self.old.engine.shown self.old.lines
+            → Writes (K.taken sink.old) (K.taken sink.new) (AnswersAll server h0 run result) }
+        ensures count { K.faults sink.old ≤ K.faults sink.new }
+        ensures fault { result ≡ Err Halt.WriteFault → Rose (K.faults sink.old) (K.faults sink.new) }
+    {
+        answer_cut(
+            alloc,
+            &mut self.engine,
+            self.lines.finish(),
+            &mut self.reply,
+            sink,
+        )
+    }
+}
+
+/// Answers the line that is shown, if there is one, its reply written whole, by way of the buffer `reply`.
+fn answer_cut<K: Sink>(
+    alloc: Global,
+    engine: &mut Engine,
+    cut: Cut,
+    reply: &mut Vec<u8>,
+    sink: &mut K,
+) -> Result<(), Halt>
+    requires { IsShort cut }
+    ensures extends { (server : List ℕ) (h0 : History) (run : Run) (answered : ℕ)
+        → GoesOn server h0 run engine.old.shown answered → ShowsNext cut.entry (input_lines run) answered
+        → Writes (K.taken sink.old) (K.taken sink.new) (StepsTo server h0 run (answered + shown_count cut.entry) result engine.new.shown) }
+    ensures count { K.faults sink.old ≤ K.faults sink.new }
+    ensures fault { result ≡ Err Halt.WriteFault → Rose (K.faults sink.old) (K.faults sink.new) }
+{
+    reply.clear();
+    answer(alloc, engine, cut, reply)?;
+    write_all(sink, reply.as_slice())?;
+    Ok(())
+}
