@@ -77,16 +77,18 @@ pub static GLOB_CASES: [GlobCase; 39] = [
 
 /// Matches that are measured, the most common first, then the most hostile.
 #[rattlefmt::skip]
-pub static GLOB_WORK: [GlobWork; 11] = [
+pub static GLOB_WORK: [GlobWork; 13] = [
     GlobWork { name: "word u7 on hello u7", call: GlobCall::Word, pattern: Text { piece: "", times: 0, end: "u7" }, value: Text { piece: "", times: 0, end: "hello u7" } },
     GlobWork { name: "whole lunc?* on lunch plans", call: GlobCall::Whole, pattern: Text { piece: "", times: 0, end: "lunc?*" }, value: Text { piece: "", times: 0, end: "lunch plans" } },
-    GlobWork { name: "word cake on 10,000 characters", call: GlobCall::Word, pattern: Text { piece: "", times: 0, end: "cake" }, value: Text { piece: "we eat bread ", times: 769, end: "cak" } },
+    GlobWork { name: "word cake on 10,000 characters with many an e", call: GlobCall::Word, pattern: Text { piece: "", times: 0, end: "cake" }, value: Text { piece: "we eat bread ", times: 769, end: "cak" } },
+    GlobWork { name: "word cake on 10,000 characters of prose", call: GlobCall::Word, pattern: Text { piece: "", times: 0, end: "cake" }, value: Text { piece: "the quick brown fox jumps over the lazy dog ", times: 227, end: "and the cows" } },
+    GlobWork { name: "word cake on 10,000 a", call: GlobCall::Word, pattern: Text { piece: "", times: 0, end: "cake" }, value: Text { piece: "a", times: 10000, end: "" } },
     GlobWork { name: "whole: 1,023 stars and b on 10,000 a", call: GlobCall::Whole, pattern: Text { piece: "*", times: 1023, end: "b" }, value: Text { piece: "a", times: 10000, end: "" } },
     GlobWork { name: "whole: 511 times *a and *b on 10,000 a", call: GlobCall::Whole, pattern: Text { piece: "*a", times: 511, end: "*b" }, value: Text { piece: "a", times: 10000, end: "" } },
     GlobWork { name: "word: 1,023 stars and b on 10,000 a", call: GlobCall::Word, pattern: Text { piece: "*", times: 1023, end: "b" }, value: Text { piece: "a", times: 10000, end: "" } },
     GlobWork { name: "word: 511 times *a and *b on 10,000 a", call: GlobCall::Word, pattern: Text { piece: "*a", times: 511, end: "*b" }, value: Text { piece: "a", times: 10000, end: "" } },
     GlobWork { name: "word b on 3,333 words ab", call: GlobCall::Word, pattern: Text { piece: "", times: 0, end: "b" }, value: Text { piece: "ab ", times: 3333, end: "" } },
     GlobWork { name: "literal u7 on hello u7", call: GlobCall::Literal, pattern: Text { piece: "", times: 0, end: "u7" }, value: Text { piece: "", times: 0, end: "hello u7" } },
-    GlobWork { name: "literal cake on 10,000 characters", call: GlobCall::Literal, pattern: Text { piece: "", times: 0, end: "cake" }, value: Text { piece: "we eat bread ", times: 769, end: "cak" } },
+    GlobWork { name: "literal cake on 10,000 characters with many an e", call: GlobCall::Literal, pattern: Text { piece: "", times: 0, end: "cake" }, value: Text { piece: "we eat bread ", times: 769, end: "cak" } },
     GlobWork { name: "whole cake on 10,000 a", call: GlobCall::Whole, pattern: Text { piece: "", times: 0, end: "*cake*" }, value: Text { piece: "a", times: 10000, end: "" } },
 ];
