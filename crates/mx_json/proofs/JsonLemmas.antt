@@ -1,8 +1,9 @@
 -- The definitions over a value, level by level.
-use Rattle.std.proofs.Common.{◌≡◌, ℕ, ◌≤◌, nat_le, ℤ, Bool, true, ◌&&◌, List, [], ◌∷◌, map, Some, inl, inr, sym, ◌∙◌, arith, rules}
+use Rattle.std.proofs.Common.{◌≡◌, ℕ, ◌≤◌, nat_le, ℤ, Bool, true, ◌&&◌, List, [], ◌∷◌, map, Some, inl, inr, refl, sym, ◌∙◌, arith, rules}
 use Rattle.std.proofs.lemmas.Bool.{and_parts, and_from, cases_Bool, le-leb, leb-true}
 use Rattle.std.specs.List.{list_all}
-use Rattle.std.specs.Str.{bytes_eq, is_utf8}
+use Rattle.std.specs.Str.{bytes_eq, is_utf8, IsUtf8}
+use Rattle.std.proofs.lemmas.Str.{is_utf8-from_IsUtf8}
 use Rattle.mx_json.specs.declared.value.Json.{Json, Whole, Text, List as ListOf, Object, out-Json, roll-Json, roll-out-Json, the_lemmas}
 use Rattle.mx_json.specs.declared.value.Json.TheOpen.{Json-F}
 use Rattle.mx_json.specs.declared.value.Json.TheVariants.{rolls-Object}
@@ -106,3 +107,28 @@ layers-valid key other json = λ valid is. absurd cc
 pub is_valid-member : (key : List ℕ) (whole json : Json) → is_valid whole ≡ true → member key whole ≡ Some json → is_valid json ≡ true
 is_valid-member key whole json valid is =
     layers-valid key (out-Json whole) json (rw (roll-out-Json whole) valid) is
+
+-- the items of a valid list are valid
+each-valid : (items : List Json) → list_all (λ item_is. item_is) (map is_canonical items) ≡ true → list_all (λ item_has. item_has) (map has_utf8 items) ≡ true → largest (map depth_of items) ≤ 127 → list_all is_valid items ≡ true
+each-valid [] canonical utf8 within = refl
+each-valid (item ∷ items) canonical utf8 within =
+    let canonicals = and_parts (is_canonical item) (list_all (λ item_is. item_is) (map is_canonical items)) canonical in
+    let utf8s = and_parts (has_utf8 item) (list_all (λ item_has. item_has) (map has_utf8 items)) utf8 in
+    and_from (is_valid item) (list_all is_valid items) (is_valid_from item canonicals.0 utf8s.0 (omega arith)) (each-valid items canonicals.1 utf8s.1 (omega arith))
+
+pub is_valid-items : (list : JsonList) → is_valid (ListOf list) ≡ true → list_all is_valid list.items ≡ true
+is_valid-items list valid =
+    let parts = is_valid_parts (ListOf list) valid in
+    let canonical = rw is_canonical-List at parts.0 in
+    let utf8 = sym (has_utf8-List list) ∙ parts.1 in
+    each-valid list.items canonical utf8 (omega (arith, parts.2, depth_of-List list))
+
+-- a text is valid where it is UTF-8
+is_canonical-Text : (text : List ℕ) → is_canonical (Text text) ≡ true
+is_canonical-Text text = search (rules, the_lemmas)
+
+depth_of-Text : (text : List ℕ) → depth_of (Text text) ≡ 0
+depth_of-Text text = search (rules, the_lemmas)
+
+pub is_valid-Text : (text : List ℕ) → IsUtf8 text → is_valid (Text text) ≡ true
+is_valid-Text text utf8 = is_valid_from (Text text) (is_canonical-Text text) (has_utf8-Text text ∙ is_utf8-from_IsUtf8 text utf8) (omega (arith, depth_of-Text text))
