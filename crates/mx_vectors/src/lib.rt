@@ -4,6 +4,7 @@
 
 mod conditions;
 mod globs;
+mod rules;
 mod text;
 
 pub use conditions::{
@@ -12,4 +13,8 @@ pub use conditions::{
     sender_notification_permission_cases,
 };
 pub use globs::{Answers, GLOB_CASES, GLOB_WORK, GlobCall, GlobCase, GlobWork};
+pub use rules::{
+    ActionsCase, PredefinedCase, PrintedRules, actions_cases, predefined_cases,
+    printed_predefined_rules,
+};
 pub use text::Text;
