@@ -1,0 +1,138 @@
+-- The text of a rule, part by part.
+use Rattle.std.proofs.Common.{◌≡◌, ℕ, ◌+◌, ◌<◌, ◌≤◌, Bool, true, false, List, [], ◌∷◌, ◌++◌, map, length, drop, get_or, codes, refl, sym, ap, ◌∙◌, append_assoc, rules}
+use Rattle.std.proofs.lemmas.List.{at_drop_more, at_drop_all, append-nil}
+use Rattle.std.specs.List.{join_with_byte}
+use Rattle.json.specs.Print.{escape_byte}
+use Rattle.mx_json.specs.declared.value.Json.{Json, Truth, Text, List as ListOf, Object, the_lemmas}
+use Rattle.mx_json.specs.Canonical.{canonical, comma, pair_text}
+use Rattle.mx_json.proofs.CanonicalLemmas.{canonical-List, canonical-Object}
+use Rattle.mx_json.proofs.JsonLemmas.{with_value}
+use Rattle.mx_rule.specs.declared.criterion.Criterion.{Criterion}
+use Rattle.mx_rule.specs.declared.criterion.Criterion.TheVariants.{Conditions, Word, InRoom, FromSender}
+use Rattle.mx_rule.specs.Rule.{PushRule}
+use Rattle.mx_rule.specs.Printed.{conditions_pair, conditions_text, pattern_pair, pattern_text, printed, separated}
+
+-- ---- the texts of a list, one after another
+
+joined : (item : Json) (items : List Json) → join_with_byte comma (map canonical (item ∷ items)) ≡ canonical item ++ separated (codes ",") items
+joined item [] = sym (append-nil (canonical item))
+joined item (next ∷ items) = ap (λ text. canonical item ++ comma ∷ text) (joined next items)
+
+pub canonical-separated : (items : List Json) → canonical (ListOf record { items = items }) ≡ codes "[" ++ (separated [] items ++ codes "]")
+canonical-separated [] = canonical-List record { items = [] }
+canonical-separated (item ∷ items) =
+    canonical-List record { items = item ∷ items } ∙ ap (λ text. codes "[" ++ (text ++ codes "]")) (joined item items)
+
+-- one more text of a list
+pub separated-more : (out separator : List ℕ) (items : List Json) (i : ℕ) (item : Json) → i < length items → item ≡ get_or items i item
+    → ((out ++ separator) ++ canonical item) ++ separated (codes ",") (drop (i + 1) items) ≡ out ++ separated separator (drop i items)
+separated-more out separator items i item within is =
+    let rest = separated (codes ",") (drop (i + 1) items) in
+    append_assoc (out ++ separator) (canonical item) rest
+    ∙ append_assoc out separator (canonical item ++ rest)
+    ∙ ap (λ x. out ++ (separator ++ (canonical x ++ rest))) is
+    ∙ ap (λ text. out ++ text) (sym (at_drop_more (separated separator) items i item within))
+
+-- all texts of a list
+pub separated-written : (before out separator : List ℕ) (items : List Json) (i : ℕ) → length items ≤ i
+    → out ++ separated separator (drop i items) ≡ (before ++ codes "[") ++ separated [] items
+    → out ++ codes "]" ≡ before ++ canonical (ListOf record { items = items })
+separated-written before out separator items i over written =
+    let none = sym (append-nil out) ∙ ap (λ text. out ++ text) (sym (at_drop_all (separated separator) items i over)) in
+    ap (λ text. text ++ codes "]") (none ∙ written)
+    ∙ append_assoc (before ++ codes "[") (separated [] items) (codes "]")
+    ∙ append_assoc before (codes "[") (separated [] items ++ codes "]")
+    ∙ ap (λ text. before ++ text) (sym (canonical-separated items))
+
+-- ---- a truth
+
+pub canonical-true : (truth : Bool) → truth ≡ true → codes "true" ≡ canonical (Truth truth)
+canonical-true true is = sym (search (rules, the_lemmas))
+canonical-true false is = cc
+
+pub canonical-false : (truth : Bool) → truth ≡ false → codes "false" ≡ canonical (Truth truth)
+canonical-false false is = sym (search (rules, the_lemmas))
+canonical-false true is = cc
+
+-- ---- the parts of a rule
+
+pub conditions_text-is : (criterion : Criterion) (conditions : List Json) → criterion ≡ Conditions conditions
+    → codes ",\"conditions\":" ++ canonical (ListOf record { items = conditions }) ≡ conditions_text criterion
+unfolding escape_byte
+conditions_text-is criterion conditions is = rw is refl
+
+pub pattern_text-is : (criterion : Criterion) (pattern : List ℕ) → criterion ≡ Word pattern
+    → codes ",\"pattern\":" ++ canonical (Text pattern) ≡ pattern_text criterion
+unfolding escape_byte
+pattern_text-is criterion pattern is = rw is refl
+
+-- its text, from its criterion on
+abbrev rest_of : PushRule → List ℕ
+rest_of rule =
+    conditions_text rule.criterion
+    ++ ((codes ",\"default\":" ++ canonical (Truth rule.predefined))
+    ++ ((codes ",\"enabled\":" ++ canonical (Truth rule.enabled))
+    ++ (pattern_text rule.criterion
+    ++ (codes ",\"rule_id\":" ++ (canonical (Text rule.id) ++ codes "}")))))
+
+-- the texts of an object's members after the first, and the brace that closes it
+abbrev members_text : List (List ℕ × List ℕ) → List ℕ
+members_text [] = codes "}"
+members_text (pair ∷ pairs) = codes "," ++ (pair_text pair ++ members_text pairs)
+
+closed : (pair : List ℕ × List ℕ) (pairs : List (List ℕ × List ℕ)) → join_with_byte comma (map pair_text (pair ∷ pairs)) ++ codes "}" ≡ pair_text pair ++ members_text pairs
+closed pair [] = refl
+closed pair (next ∷ pairs) =
+    append_assoc (pair_text pair) (comma ∷ join_with_byte comma (map pair_text (next ∷ pairs))) (codes "}")
+    ∙ ap (λ text. pair_text pair ++ (comma ∷ text)) (closed next pairs)
+
+object-written : (pair : List ℕ × Json) (pairs : List (List ℕ × Json))
+    → canonical (Object record { pairs = pair ∷ pairs }) ≡ codes "{" ++ (pair_text (with_value canonical pair) ++ members_text (map (with_value canonical) pairs))
+object-written pair pairs =
+    canonical-Object record { pairs = pair ∷ pairs }
+    ∙ ap (λ text. codes "{" ++ text) (closed (with_value canonical pair) (map (with_value canonical) pairs))
+
+-- the members after the actions
+abbrev pairs_after : PushRule → List (List ℕ × Json)
+pairs_after rule =
+    conditions_pair rule.criterion
+    ++ ((codes "default", Truth rule.predefined)
+    ∷ (codes "enabled", Truth rule.enabled)
+    ∷ (pattern_pair rule.criterion
+    ++ ((codes "rule_id", Text rule.id) ∷ [])))
+
+rest-written : (id : List ℕ) (predefined enabled : Bool) (actions : List Json) (criterion : Criterion)
+    → let rule : PushRule = record { id = id; predefined = predefined; enabled = enabled; actions = actions; criterion = criterion } in
+    members_text (map (with_value canonical) (pairs_after rule)) ≡ rest_of rule
+unfolding escape_byte
+rest-written id predefined enabled actions (Conditions conditions) = refl
+rest-written id predefined enabled actions (Word pattern) = refl
+rest-written id predefined enabled actions InRoom = refl
+rest-written id predefined enabled actions FromSender = refl
+
+pub printed-parts : (rule : PushRule) → printed rule ≡ codes "{\"actions\":" ++ (canonical (ListOf record { items = rule.actions }) ++ rest_of rule)
+unfolding escape_byte printed
+printed-parts rule =
+    object-written (codes "actions", ListOf record { items = rule.actions }) (pairs_after rule)
+    ∙ ap (λ text. codes "{\"actions\":" ++ (canonical (ListOf record { items = rule.actions }) ++ text))
+    (rest-written rule.id rule.predefined rule.enabled rule.actions rule.criterion)
+
+-- the parts, one after another
+pub printed-assembled : (before : List ℕ) (rule : PushRule)
+    → ((((((((before ++ codes "{\"actions\":") ++ canonical (ListOf record { items = rule.actions }))
+    ++ conditions_text rule.criterion)
+    ++ (codes ",\"default\":" ++ canonical (Truth rule.predefined)))
+    ++ (codes ",\"enabled\":" ++ canonical (Truth rule.enabled)))
+    ++ pattern_text rule.criterion)
+    ++ codes ",\"rule_id\":")
+    ++ canonical (Text rule.id)) ++ codes "}"
+    ≡ before ++ printed rule
+printed-assembled before rule =
+    let a = canonical (ListOf record { items = rule.actions }) in
+    let d = codes ",\"default\":" ++ canonical (Truth rule.predefined) in
+    let e = codes ",\"enabled\":" ++ canonical (Truth rule.enabled) in
+    nine before (codes "{\"actions\":") a (conditions_text rule.criterion) d e (pattern_text rule.criterion) (codes ",\"rule_id\":") (canonical (Text rule.id)) (codes "}")
+    ∙ ap (λ text. before ++ text) (sym (printed-parts rule))
+  where
+    nine : (o k a c d e p r i z : List ℕ) → ((((((((o ++ k) ++ a) ++ c) ++ d) ++ e) ++ p) ++ r) ++ i) ++ z ≡ o ++ (k ++ (a ++ (c ++ (d ++ (e ++ (p ++ (r ++ (i ++ z))))))))
+    nine o k a c d e p r i z = simp append_assoc

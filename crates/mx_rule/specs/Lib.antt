@@ -1,0 +1,5 @@
+pub mod Actions
+pub mod Predefined
+pub mod Printed
+pub mod Rule
+pub mod Ruleset

@@ -1,0 +1,105 @@
+ghost use Rattle.std.specs.Prelude.{◌≡◌, true, false, [], ◌∷◌, ◌++◌, map, string_bytes, IfOk, OnOk};
+ghost use Rattle.std.specs.List.{list_any};
+ghost use Rattle.std.specs.Str.{bytes_eq};
+ghost use Rattle.indexmap.specs.IndexMap.{keys, values};
+ghost use Rattle.mx_rule.specs.Ruleset.{are_distinct, ids_of};
+
+use crate::rule::Rule;
+use indexmap::IndexMap;
+use mx_json::OutOfMemory;
+use std::alloc::Global;
+use std::marker::Model;
+
+/// The rules of a kind in order of importance, by their ids.
+#[derive(Drop)]
+pub struct RuleList {
+    rules: IndexMap<String, Rule>,
+}
+
+impl Model for RuleList {
+    ghost use Rattle.std.specs.Prelude.{List};
+    ghost use Rattle.mx_rule.specs.Rule.{PushRule};
+
+    ghost Value = { List PushRule };
+
+    ghost use Rattle.mx_rule.specs.contracts.rule.Rule as rule;
+    ghost use Rattle.std.specs.Coded.{codes};
+
+    ghost coded = { Prim.hlevel (codes, rule.the_row.coded) };
+
+    ghost use Rattle.std.specs.Prelude.{◌≡◌, true, map};
+    ghost use Rattle.std.specs.String.{string_bytes};
+    ghost use Rattle.indexmap.specs.IndexMap.{keys, values};
+    ghost use Rattle.mx_rule.specs.Ruleset.{are_distinct, ids_of};
+
+    ghost view = { λ list. values list.rules };
+
+    ghost invariant = { λ list. (map string_bytes (keys list.rules) ≡ ids_of (values list.rules))
+        × (are_distinct (ids_of (values list.rules)) ≡ true) };
+}
+
+impl RuleList {
+    /// The list of these rules.
+    ///
+    /// # Errors
+    ///
+    /// `OutOfMemory` where the allocator has none.
+    pub fn of(alloc: Global, rules: Vec<Rule>) -> Result<RuleList, OutOfMemory>
+        requires { are_distinct (ids_of rules.items) ≡ true }
+        ensures { IfOk result (λ list. list ≡ rules.items) }
+    {
+        let mut by_id = IndexMap::with_capacity(alloc, rules.len())?;
+        for rule in rules {
+            put_last(alloc, &mut by_id, rule)?;
+        }
+        Ok(RuleList { rules: by_id })
+    }
+
+    /// The rules, in order of importance.
+    pub fn as_slice(&self) -> &[Rule]
+        ensures rules { result.now ≡ self.now }
+        ensures distinct { are_distinct (ids_of self.now) ≡ true }
+    {
+        self.rules.values().as_slice()
+    }
+
+    /// An equal list of its own.
+    ///
+    /// # Errors
+    ///
+    /// `OutOfMemory` where the allocator has none.
+    pub fn copied(&self, alloc: Global) -> Result<RuleList, OutOfMemory>
+        ensures { IfOk result (λ list. list ≡ self.now) }
+    {
+        let rules = self.as_slice();
+        RuleList::of(alloc, copied(alloc, rules)?)
+    }
+}
+
+// Puts a rule last whose id is new.
+fn put_last(
+    alloc: Global,
+    by_id: &mut IndexMap<String, Rule>,
+    rule: Rule,
+) -> Result<(), OutOfMemory>
+    requires { list_any (bytes_eq rule.id) (map string_bytes (keys by_id.old)) ≡ false }
+    ensures ids { OnOk result
+        (map string_bytes (keys by_id.new) ≡ map string_bytes (keys by_id.old) ++ rule.id ∷ []) }
+    ensures rules { OnOk result (values by_id.new ≡ values by_id.old ++ rule ∷ []) }
+{
+    let id = String::from_str(alloc, rule.id())?;
+    match by_id.insert(id, rule) {
+        Ok(_) => Ok(()),
+        Err(_) => Err(OutOfMemory),
+    }
+}
+
+fn copied(alloc: Global, rules: &[Rule]) -> Result<Vec<Rule>, OutOfMemory>
+    ensures { IfOk result (λ copies. copies.items ≡ rules.now) }
+{
+    let mut copies = Vec::new(alloc);
+    for rule in rules {
+        copies.push(rule.copied(alloc)?)?;
+    }
+    Ok(copies)
+}

@@ -1,0 +1,97 @@
+ghost use Rattle.std.specs.Prelude.{◌≡◌, ◌↔◌, option_and_then, IfOk, IsTrue};
+ghost use Rattle.std.specs.Option.{option_copied};
+ghost use Rattle.mx_json.specs.Gives.{Gives};
+ghost use Rattle.mx_json.specs.Json.{text_of};
+ghost use Rattle.mx_json.specs.Path.{look};
+ghost use Rattle.mx_cond.specs.Holds.{body_path};
+ghost use Rattle.mx_rule.specs.Rule.{read_pattern, IsWordOfBody};
+
+use mx_event::Event;
+use mx_glob::{Glob, GlobError, Scratch};
+use mx_json::{Folded, JsonText, Meter, OutOfMemory};
+use std::alloc::Global;
+use std::marker::Model;
+
+/// The pattern of a content rule, of at most 1,024 bytes, seen as its text. It is folded when it is
+/// read.
+#[derive(Drop)]
+pub struct Pattern {
+    text: JsonText,
+    glob: Glob,
+}
+
+impl Model for Pattern {
+    ghost use Rattle.std.specs.Prelude.{◌≡◌, ℕ, List, Ok};
+    ghost use Rattle.mx_glob.specs.Reading.{reading};
+
+    ghost Value = { List ℕ };
+
+    ghost view = { λ pattern. pattern.text };
+
+    ghost invariant = { λ pattern. reading pattern.text ≡ Ok pattern.glob };
+}
+
+impl Pattern {
+    /// The pattern that a text is.
+    ///
+    /// # Errors
+    ///
+    /// `PatternTooLong` exactly where the text has more than 1,024 bytes, and `OutOfMemory`.
+    pub fn read(alloc: Global, text: &str) -> Result<Pattern, GlobError>
+        ensures { Gives GlobError.OutOfMemory result (read_pattern text.now) }
+    {
+        let glob = Glob::read(alloc, text)?;
+        let text = JsonText::read(alloc, text)?;
+        Ok(Pattern { text, glob })
+    }
+
+    /// The text.
+    pub fn as_str(&self) -> &str
+        ensures { result.now ≡ self.now }
+    {
+        self.text.as_str()
+    }
+
+    /// Whether the pattern matches a word of the event's `content.body`, case apart
+    /// (Client-Server API v1.11, "Push rules", content rules). It takes memory only to fold the
+    /// body.
+    ///
+    /// # Errors
+    ///
+    /// `OutOfMemory` where the allocator has none.
+    pub fn is_word_of_body(
+        &self,
+        alloc: Global,
+        event: &Event,
+        scratch: &mut Scratch,
+    ) -> Result<bool, OutOfMemory>
+        ensures { IfOk result (λ is. IsTrue is ↔ IsWordOfBody self.now event.now) }
+    {
+        let Some(body) = body_of(event) else {
+            return Ok(false);
+        };
+        let body = Folded::of(alloc, body)?;
+        Ok(self.glob.word(&body, scratch, &mut Meter::new()))
+    }
+
+    /// An equal pattern of its own.
+    ///
+    /// # Errors
+    ///
+    /// `OutOfMemory` where the allocator has none.
+    pub fn copied(&self, alloc: Global) -> Result<Pattern, OutOfMemory>
+        ensures { IfOk result (λ pattern. pattern ≡ self.now) }
+    {
+        match Pattern::read(alloc, self.text.as_str()) {
+            Ok(pattern) => Ok(pattern),
+            Err(GlobError::OutOfMemory) => Err(OutOfMemory),
+            Err(GlobError::PatternTooLong) => unreachable!(),
+        }
+    }
+}
+
+fn body_of(event: &Event) -> Option<&str>
+    ensures { option_copied result ≡ option_and_then text_of (look body_path event.now) }
+{
+    event.json().member("content")?.member("body")?.as_text()
+}

@@ -1,0 +1,200 @@
+ghost use Rattle.std.specs.Prelude.{◌≡◌, ◌↔◌, true, map, IfOk, IsTrue};
+ghost use Rattle.std.specs.List.{list_all};
+ghost use Rattle.std.specs.Option.{option_copied};
+ghost use Rattle.mx_json.specs.Json.{is_valid};
+ghost use Rattle.mx_cond.specs.Facts.{told_by};
+ghost use Rattle.mx_rule.specs.Actions.{action_of, verdict_of};
+ghost use Rattle.mx_rule.specs.Rule.{conditions_of, has_mentions, is_passed_over, looks_for_mention, pattern_of, MayDecide};
+
+use crate::action::Action;
+use crate::actions::Actions;
+use crate::criterion::Criterion;
+use crate::verdict::Verdict;
+use mx_cond::{Condition, Facts};
+use mx_event::Event;
+use mx_glob::Scratch;
+use mx_json::{Json, JsonText, OutOfMemory};
+use std::alloc::Global;
+use std::marker::Model;
+
+/// A push rule (Client-Server API v1.11, "Push rules").
+#[derive(Drop)]
+pub struct Rule {
+    id: JsonText,
+    predefined: bool,
+    enabled: bool,
+    actions: Actions,
+    criterion: Criterion,
+}
+
+impl Model for Rule {
+    ghost use Rattle.mx_rule.specs.Rule.{PushRule};
+
+    ghost Value = { PushRule };
+
+    ghost use Rattle.mx_json.specs.contracts.value.Json as whole;
+    ghost use Rattle.std.specs.Coded.{codes};
+
+    ghost coded = { Prim.hlevel (codes, whole.the_row.coded) };
+
+    ghost view = { λ rule. record {
+      id = rule.id;
+      predefined = rule.predefined;
+      enabled = rule.enabled;
+      actions = rule.actions;
+      criterion = rule.criterion;
+    } };
+}
+
+impl Rule {
+    /// A rule of its parts.
+    pub fn new(
+        id: JsonText,
+        predefined: bool,
+        enabled: bool,
+        actions: Actions,
+        criterion: Criterion,
+    ) -> Rule
+        ensures { result ≡ record {
+          id = id;
+          predefined = predefined;
+          enabled = enabled;
+          actions = actions;
+          criterion = criterion;
+        } }
+    {
+        Rule {
+            id,
+            predefined,
+            enabled,
+            actions,
+            criterion,
+        }
+    }
+
+    /// The id, which no other rule of its kind has.
+    pub fn id(&self) -> &str
+        ensures { result.now ≡ self.now.id }
+    {
+        self.id.as_str()
+    }
+
+    /// Whether the rule is there from the start, and not made by the user.
+    pub fn predefined(&self) -> bool
+        ensures { result ≡ self.now.predefined }
+    {
+        self.predefined
+    }
+
+    /// Whether the rule is enabled.
+    pub fn enabled(&self) -> bool
+        ensures { result ≡ self.now.enabled }
+    {
+        self.enabled
+    }
+
+    /// What its actions do, in the order given.
+    pub fn actions(&self) -> &[Action]
+        ensures { result.now ≡ map action_of self.now.actions }
+    {
+        self.actions.as_slice()
+    }
+
+    /// Its actions, as they were given.
+    pub fn given_actions(&self) -> &[Json]
+        ensures given { result.now ≡ self.now.actions }
+        ensures valid { list_all is_valid self.now.actions ≡ true }
+    {
+        self.actions.given()
+    }
+
+    /// What it asks of an event.
+    pub fn criterion(&self) -> &Criterion
+        ensures { result.now ≡ self.now.criterion }
+    {
+        &self.criterion
+    }
+
+    /// Its conditions, in the order given; empty for other kinds than override and underride.
+    pub fn conditions(&self) -> &[Condition]
+        ensures { result.now ≡ conditions_of self.now.criterion }
+    {
+        self.criterion.conditions()
+    }
+
+    /// Its pattern; `None` exactly where the rule isn't a content rule.
+    pub fn pattern(&self) -> Option<&str>
+        ensures { option_copied result ≡ pattern_of self.now.criterion }
+    {
+        self.criterion.pattern()
+    }
+
+    /// What the rule says of an event for which it decides: whether it notifies, and the tweaks.
+    ///
+    /// # Errors
+    ///
+    /// `OutOfMemory` where the allocator has none.
+    pub fn verdict(&self, alloc: Global) -> Result<Verdict, OutOfMemory>
+        ensures { IfOk result (λ verdict. verdict ≡ verdict_of self.now.actions) }
+    {
+        Verdict::by(alloc, self.actions.as_slice())
+    }
+
+    /// Whether the rule is enabled and matches the event. It takes memory only to fold a text.
+    ///
+    /// # Errors
+    ///
+    /// `OutOfMemory` where the allocator has none.
+    pub fn may_decide(
+        &self,
+        alloc: Global,
+        facts: &Facts,
+        scratch: &mut Scratch,
+    ) -> Result<bool, OutOfMemory>
+        ensures { IfOk result (λ may. IsTrue may ↔ MayDecide self.now (told_by facts.now)) }
+    {
+        if !self.enabled || is_passed_over(self.id.as_str(), facts.event) {
+            return Ok(false);
+        }
+        self.criterion
+            .is_met(alloc, self.id.as_str(), facts, scratch)
+    }
+
+    /// An equal rule of its own.
+    ///
+    /// # Errors
+    ///
+    /// `OutOfMemory` where the allocator has none.
+    pub fn copied(&self, alloc: Global) -> Result<Rule, OutOfMemory>
+        ensures { IfOk result (λ rule. rule ≡ self.now) }
+    {
+        Ok(Rule {
+            id: self.id.copied(alloc)?,
+            predefined: self.predefined,
+            enabled: self.enabled,
+            actions: self.actions.copied(alloc)?,
+            criterion: self.criterion.copied(alloc)?,
+        })
+    }
+}
+
+fn is_passed_over(id: &str, event: &Event) -> bool
+    ensures { result ≡ is_passed_over id.now event.now }
+{
+    looks_for_mention(id) && has_mentions(event)
+}
+
+// The rules that aren't evaluated for an event which says itself whom it mentions.
+fn looks_for_mention(id: &str) -> bool
+    ensures { result ≡ looks_for_mention id.now }
+{
+    id == ".m.rule.contains_display_name"
+        || id == ".m.rule.roomnotif"
+        || id == ".m.rule.contains_user_name"
+}
+
+fn has_mentions(event: &Event) -> bool
+    ensures { result ≡ has_mentions event.now }
+{
+    event.content().member("m.mentions").is_some()
+}

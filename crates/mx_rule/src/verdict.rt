@@ -1,0 +1,88 @@
+ghost use Rattle.std.specs.Prelude.{◌≡◌, option_map, IfOk};
+ghost use Rattle.std.specs.Option.{option_copied};
+ghost use Rattle.mx_rule.specs.Actions.{highlight_in, highlights, notifies, sound_in, sound_of, verdict_by};
+
+use crate::action::Action;
+use mx_json::{JsonText, OutOfMemory};
+use std::alloc::Global;
+
+/// What is said of an event for a user.
+#[derive(Drop)]
+pub struct Verdict {
+    /// Whether it notifies.
+    pub notify: bool,
+    /// Whether it is highlighted.
+    pub highlight: bool,
+    /// The sound that it makes, if any.
+    pub sound: Option<JsonText>,
+}
+
+impl Verdict {
+    /// What these actions mean together: one of them is `notify`, and of a tweak that is given more
+    /// than once the last decides.
+    ///
+    /// # Errors
+    ///
+    /// `OutOfMemory` where the allocator has none.
+    pub fn by(alloc: Global, actions: &[Action]) -> Result<Verdict, OutOfMemory>
+        ensures { IfOk result (λ verdict. verdict ≡ verdict_by actions.now) }
+    {
+        let sound = match sound_of(actions) {
+            Some(sound) => Some(sound.copied(alloc)?),
+            None => None,
+        };
+        Ok(Verdict {
+            notify: notifies(actions),
+            highlight: highlights(actions),
+            sound,
+        })
+    }
+}
+
+fn notifies(actions: &[Action]) -> bool
+    ensures { result ≡ notifies actions.now }
+{
+    actions
+        .iter()
+        .any(|action| matches!(action, Action::Notify))
+}
+
+fn highlights(actions: &[Action]) -> bool
+    ensures { result ≡ highlights actions.now }
+{
+    let mut said = None;
+    for action in actions {
+        said = highlight_in(action).or(said);
+    }
+    said.unwrap_or(false)
+}
+
+// What a tweak `highlight` says.
+fn highlight_in(action: &Action) -> Option<bool>
+    ensures { result ≡ highlight_in action.now }
+{
+    match action {
+        Action::Highlight(on) => Some(*on),
+        _ => None,
+    }
+}
+
+fn sound_of(actions: &[Action]) -> Option<&JsonText>
+    ensures { option_copied result ≡ sound_of actions.now }
+{
+    let mut said = None;
+    for action in actions {
+        said = sound_in(action).or(said);
+    }
+    said.unwrap_or(None)
+}
+
+// What a tweak `sound` says: a sound, or that there is none.
+fn sound_in(action: &Action) -> Option<Option<&JsonText>>
+    ensures { option_map option_copied result ≡ sound_in action.now }
+{
+    match action {
+        Action::Sound(sound) => Some(sound.as_ref()),
+        _ => None,
+    }
+}
