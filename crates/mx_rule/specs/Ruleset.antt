@@ -45,23 +45,24 @@ placed_from kind index (rule ∷ rules) =
 abbrev pub placed : Kind → PushRuleset → List Placed
 placed kind rules = placed_from kind 0 (rules_of_kind kind rules)
 
--- the rule that switches all others off: an override rule
-abbrev pub is_master : PushRule → Bool
-is_master rule = bytes_eq rule.id (codes ".m.rule.master")
+-- the rule that switches all others off: the override rule `.m.rule.master`
+abbrev pub is_master : Kind → PushRule → Bool
+is_master Override rule = bytes_eq rule.id (codes ".m.rule.master")
+is_master kind rule = false
 
 -- a rule that the user made
-abbrev pub is_own : PushRule → Bool
-is_own rule = not (is_master rule) && not rule.predefined
+abbrev pub is_own : Kind → PushRule → Bool
+is_own kind rule = not (is_master kind rule) && not rule.predefined
 
 -- a predefined rule but the master
-abbrev pub is_given : PushRule → Bool
-is_given rule = not (is_master rule) && rule.predefined
+abbrev pub is_given : Kind → PushRule → Bool
+is_given kind rule = not (is_master kind rule) && rule.predefined
 
--- rules by importance: `.m.rule.master`, which stands among override rules alone, then the user's rules, then the predefined ones
-abbrev pub by_importance : List Placed → List Placed
-by_importance rules =
-    filter (λ each. is_master each.rule) rules
-    ++ (filter (λ each. is_own each.rule) rules ++ filter (λ each. is_given each.rule) rules)
+-- the rules of a kind by importance: the master, then the user's rules, then the predefined ones
+abbrev pub by_importance : Kind → List Placed → List Placed
+by_importance kind rules =
+    filter (λ each. is_master kind each.rule) rules
+    ++ (filter (λ each. is_own kind each.rule) rules ++ filter (λ each. is_given kind each.rule) rules)
 
 -- the kinds in order of importance
 abbrev pub kinds : List Kind
@@ -69,7 +70,7 @@ kinds = Override ∷ Content ∷ Room ∷ Sender ∷ Underride ∷ []
 
 -- all rules in order of importance: kind by kind, within a kind by importance
 unfoldable pub flat : PushRuleset → List Placed
-flat rules = flat_map (λ kind. by_importance (placed kind rules)) kinds
+flat rules = flat_map (λ kind. by_importance kind (placed kind rules)) kinds
 
 -- ---- the first match
 
@@ -92,13 +93,14 @@ fits Underride (Conditions conditions) = true
 fits kind criterion = false
 
 -- how far back a rule stands among those of its kind
-abbrev pub rank_of : PushRule → ℕ
-rank_of rule = if is_master rule then 0 else (if rule.predefined then 2 else 1)
+abbrev pub rank_of : Kind → PushRule → ℕ
+rank_of kind rule = if is_master kind rule then 0 else (if rule.predefined then 2 else 1)
 
 -- no rule stands before one that is more important
-abbrev pub are_ranked : List PushRule → Bool
-are_ranked [] = true
-are_ranked (rule ∷ rules) = list_all (λ later. nat_le (rank_of rule) (rank_of later)) rules && are_ranked rules
+abbrev pub are_ranked : Kind → List PushRule → Bool
+are_ranked kind [] = true
+are_ranked kind (rule ∷ rules) =
+    list_all (λ later. nat_le (rank_of kind rule) (rank_of kind later)) rules && are_ranked kind rules
 
 -- no two texts are equal
 abbrev pub are_distinct : List (List ℕ) → Bool
@@ -111,7 +113,7 @@ ids_of rules = map (λ rule. rule.id) rules
 -- these can be the rules of a kind: each has its criterion, they stand in order of importance, and no two have one id
 abbrev pub are_rules_of : Kind → List PushRule → Bool
 are_rules_of kind rules =
-    list_all (λ rule. fits kind rule.criterion) rules && (are_ranked rules && are_distinct (ids_of rules))
+    list_all (λ rule. fits kind rule.criterion) rules && (are_ranked kind rules && are_distinct (ids_of rules))
 
 -- these five lists are a ruleset
 abbrev pub IsRuleset : PushRuleset → Type 0

@@ -135,7 +135,7 @@ impl Ruleset {
         scratch: &mut Scratch,
     ) -> Result<Option<RulePlace>, OutOfMemory>
         ensures { IfOk result
-            (IsFirstMatch (told_by facts.now) (by_importance (placed kind self.now))) }
+            (IsFirstMatch (told_by facts.now) (by_importance kind (placed kind self.now))) }
     {
         for (index, rule) in self.rules(kind).iter().enumerate() {
             if rule.may_decide(alloc, facts, scratch)? {
