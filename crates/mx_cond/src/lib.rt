@@ -18,6 +18,7 @@ pub use condition::Condition;
 pub use error::ConditionError;
 pub use facts::Facts;
 pub use power::PowerTable;
+pub use wanted::body_of;
 
 #[cfg(test)]
 mod tests;

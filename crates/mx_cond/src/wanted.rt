@@ -146,7 +146,8 @@ fn names_owner(alloc: Global, event: &Event, owner_name: Option<&str>) -> Result
     Ok(word_literal(&name, &body, &mut Meter::new()))
 }
 
-fn body_of(event: &Event) -> Option<&str>
+/// The body of the event's message, `content.body`; `None` exactly where that isn't a text.
+pub fn body_of(event: &Event) -> Option<&str>
     ensures { option_copied result ≡ option_and_then text_of (look body_path event.now) }
 {
     let content = event.json().member_of_valid("content")?;

@@ -1,11 +1,8 @@
-ghost use Rattle.std.specs.Prelude.{◌≡◌, ◌↔◌, option_and_then, IfOk, IsTrue};
-ghost use Rattle.std.specs.Option.{option_copied};
+ghost use Rattle.std.specs.Prelude.{◌≡◌, ◌↔◌, IfOk, IsTrue};
 ghost use Rattle.mx_json.specs.Gives.{Gives};
-ghost use Rattle.mx_json.specs.Json.{text_of};
-ghost use Rattle.mx_json.specs.Path.{look};
-ghost use Rattle.mx_cond.specs.Holds.{body_path};
 ghost use Rattle.mx_rule.specs.Rule.{read_pattern, IsWordOfBody};
 
+use mx_cond::body_of;
 use mx_event::Event;
 use mx_glob::{Glob, GlobError, Scratch};
 use mx_json::{Folded, JsonText, Meter, OutOfMemory};
@@ -88,10 +85,4 @@ impl Pattern {
             Err(GlobError::PatternTooLong) => unreachable!(),
         }
     }
-}
-
-fn body_of(event: &Event) -> Option<&str>
-    ensures { option_copied result ≡ option_and_then text_of (look body_path event.now) }
-{
-    event.json().member("content")?.member("body")?.as_text()
 }
