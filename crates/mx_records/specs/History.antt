@@ -9,44 +9,45 @@ use Rattle.mx_records.specs.declared.input.Input.TheVariants.{Event}
 abbrev pub History : Type 0
 History = List Input
 
+-- The history goes on with this input.
+abbrev pub with_input : History → Input → History
+with_input h input = h ++ input ∷ []
+
 -- how many inputs a history has
 abbrev pub inputs_of : History → ℕ
 inputs_of h = length h
 
--- An input, with the history before it.
-pub record Moment : Type 0 where
+-- The position of an input is its number among the inputs, from 1: that of the input which comes straight after a history.
+abbrev pub position_after : History → ℕ
+position_after before = inputs_of before + 1
+
+-- An arrival is an input with the history before it.
+pub record Arrival : Type 0 where
   pub before : History
   pub input : Input
 
--- The position of an input is its number among the inputs, from 1.
-abbrev pub position : Moment → ℕ
-position moment = inputs_of moment.before + 1
-
--- the moments of the inputs that come after `before`
-unfoldable pub moments_after : History → History → List Moment
-moments_after before [] = []
-moments_after before (input ∷ inputs) =
-    record { before = before; input = input } ∷ moments_after (before ++ input ∷ []) inputs
+-- the arrivals of these inputs after a history
+unfoldable pub arrivals_after : History → List Input → List Arrival
+arrivals_after before [] = []
+arrivals_after before (input ∷ inputs) =
+    record { before = before; input = input } ∷ arrivals_after (with_input before input) inputs
 
 -- each input of a history, with what stood before it
-abbrev pub moments : History → List Moment
-moments h = moments_after [] h
+abbrev pub arrivals : History → List Arrival
+arrivals h = arrivals_after [] h
 
--- An event of a history, with the history before it.
+-- A happening is an event with the history before it.
 pub record Happening : Type 0 where
   pub before : History
   pub event : Json
 
--- The position of an event is that of its input.
-abbrev pub place_number : Happening → ℕ
-place_number happening = inputs_of happening.before + 1
-
+-- what happens where this input comes after a history
 abbrev pub happening_by : History → Input → Option Happening
 happening_by before (Event event) = Some (record { before = before; event = event })
 
-abbrev pub happening_of : Moment → Option Happening
-happening_of moment = happening_by moment.before moment.input
+abbrev pub happening_of : Arrival → Option Happening
+happening_of arrival = happening_by arrival.before arrival.input
 
 -- the events of a history, oldest first
 unfoldable pub events : History → List Happening
-events h = filter_map happening_of (moments h)
+events h = filter_map happening_of (arrivals h)

@@ -3,3 +3,6 @@ pub mod Judging
 pub mod Counting
 pub mod Refusing
 pub mod Snapshot
+pub mod FieldNames
+pub mod InputWords
+pub mod Forms

@@ -1,5 +1,6 @@
 -- Which inputs and questions a history refuses, and which inputs it may go on with: ours.
-use Rattle.std.specs.Prelude.{ℕ, List, ◌≡◌, Bool, Option, None, is_some, option_map, find}
+use Rattle.std.specs.Prelude.{ℕ, ◌≤◌, List, ◌≡◌, Bool, nat_le, if◌then◌else◌, Option, None, Some, is_some, option_map, find}
+use Rattle.std.specs.Option.{option_or}
 use Rattle.std.specs.Str.{bytes_eq}
 use Rattle.mx_json.specs.declared.value.Json.{Json}
 use Rattle.mx_json.specs.Ids.{localpart_of}
@@ -7,8 +8,8 @@ use Rattle.mx_event.specs.Event.{event_id_of}
 use Rattle.mx_records.specs.declared.input.Input.{Input}
 use Rattle.mx_records.specs.declared.input.Input.TheVariants.{Event}
 use Rattle.mx_records.specs.declared.refusal.Refusal.{Refusal}
-use Rattle.mx_records.specs.declared.refusal.Refusal.TheVariants.{KnownEvent}
-use Rattle.mx_records.specs.History.{History, events, place_number}
+use Rattle.mx_records.specs.declared.refusal.Refusal.TheVariants.{NotLocal, KnownEvent, Full}
+use Rattle.mx_records.specs.History.{History, events, inputs_of, position_after}
 
 -- the user is one of this server
 abbrev pub is_local : List ℕ → List ℕ → Bool
@@ -19,12 +20,31 @@ is_named id event = bytes_eq (event_id_of event) id
 
 -- where the event with this id was accepted first
 unfoldable pub position_of : History → List ℕ → Option ℕ
-position_of h id = option_map place_number (find (λ happening. is_named id happening.event) (events h))
+position_of h id =
+    option_map (λ happening. position_after happening.before) (find (λ happening. is_named id happening.event) (events h))
 
--- Why a history refuses an input: an event whose id was accepted is known, at its position.
-unfoldable pub refusal_of : History → Input → Option Refusal
-refusal_of h (Event event) = option_map KnownEvent (position_of h (event_id_of event))
+-- as many inputs as a history may have
+abbrev pub most_inputs : ℕ
+most_inputs = 1000000
+
+-- the history has as many inputs as it may have
+abbrev pub is_full : History → Bool
+is_full h = nat_le most_inputs (inputs_of h)
+
+-- why a history refuses an input for what it says: an event whose id was accepted is known, at its position
+abbrev pub refusal_of_content : List ℕ → History → Input → Option Refusal
+refusal_of_content server h (Event event) = option_map KnownEvent (position_of h (event_id_of event))
+
+-- Why a history refuses an input: for what it says, and else because the history is full.
+unfoldable pub refusal_of : List ℕ → History → Input → Option Refusal
+refusal_of server h input = option_or (refusal_of_content server h input) (if is_full h then Some Full else None)
 
 -- An input may come next where nothing refuses it.
-abbrev pub IsAcceptable : History → Input → Type 0
-IsAcceptable h input = refusal_of h input ≡ None
+abbrev pub IsAcceptable : List ℕ → History → Input → Type 0
+IsAcceptable server h input = refusal_of server h input ≡ None
+
+-- a position that a refusal names is one that an input can have
+abbrev pub NamesAPosition : Refusal → Type 0
+NamesAPosition NotLocal = Unit {0}
+NamesAPosition (KnownEvent position) = position ≤ most_inputs
+NamesAPosition Full = Unit {0}

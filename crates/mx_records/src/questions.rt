@@ -1,6 +1,7 @@
-ghost use Rattle.std.specs.Prelude.{◌≡◌, ℕ, List};
+ghost use Rattle.std.specs.Prelude.{◌≡◌, ◌≤◌, ℕ, List};
 ghost use Rattle.mx_records.specs.Counting.{counts_of};
 ghost use Rattle.mx_records.specs.History.{History};
+ghost use Rattle.mx_records.specs.Refusing.{most_inputs};
 ghost use Rattle.mx_records.specs.Snapshot.{Snapshot, snapshot_of};
 
 use crate::Counts;
@@ -8,11 +9,16 @@ use mx_json::{RoomId, UserId};
 
 /// What a state that stands for a history can be asked. No question takes memory or changes the state.
 pub trait Questions {
+    /// The name of the homeserver whose users are local.
+    ghost server: { Self → List ℕ };
+
     /// What the state knows of its history.
     ghost snapshot: { Self → Snapshot };
 
     /// How many events of the room are unread for the user.
     fn counts(&self, user: &UserId, room: &RoomId) -> Counts
-        ensures { (server : List ℕ) (h : History) → snapshot self.now ≡ snapshot_of server h
-            → result ≡ counts_of h user.now room.now };
+        ensures exact { (h : History) → snapshot self.now ≡ snapshot_of (server self.now) h
+            → result ≡ counts_of (server self.now) h user.now room.now }
+        ensures notify_in_range { result.notify ≤ most_inputs }
+        ensures highlight_in_range { result.highlight ≤ most_inputs };
 }

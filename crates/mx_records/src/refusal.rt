@@ -1,6 +1,9 @@
 use std::error::Error;
 use std::fmt;
 
+/// As many inputs as a history may have.
+pub const MOST_INPUTS: u64 = 1_000_000;
+
 /// Why a history refuses an input or a question, in the order in which the causes are tested.
 #[derive(Clone, Copy, Debug, PartialEq, Eq)]
 pub enum Refusal {
@@ -8,6 +11,8 @@ pub enum Refusal {
     NotLocal,
     /// The event id was accepted before, first at this position (from 1).
     KnownEvent(u64),
+    /// The history has 1,000,000 inputs, and takes no more.
+    Full,
 }
 
 impl fmt::Display for Refusal {
@@ -17,6 +22,10 @@ impl fmt::Display for Refusal {
             Refusal::KnownEvent(position) => {
                 write!(f, "the event is known, at position {position}")
             }
+            Refusal::Full => write!(
+                f,
+                "{MOST_INPUTS} inputs were accepted, and no more are taken"
+            ),
         }
     }
 }
