@@ -3,5 +3,7 @@ pub use Rattle.mx_records.specs.Judging
 pub use Rattle.mx_records.specs.Counting
 pub use Rattle.mx_records.specs.Refusing
 pub use Rattle.mx_records.specs.Snapshot
+pub mod Messages
+pub mod Planning
 pub mod Preparing
 pub mod View

@@ -1,16 +1,18 @@
 use mx_event::Event;
 use std::marker::Model;
 
-/// An input that was prepared: all that applying it will take. Contracts see the input.
+/// An input that was prepared for one state of an engine: all that applying it will take. Contracts see the input, and
+/// the position that it will take.
 #[derive(Drop)]
 pub struct Plan {
     pub(crate) event: Event,
+    pub(crate) position: u64,
 }
 
 impl Model for Plan {
-    ghost use Rattle.mx_records.specs.declared.input.Input.{Input};
+    ghost use Rattle.mx_engine.specs.Planning.{Planned};
 
-    ghost Value = { Input };
+    ghost Value = { Planned };
 
     ghost use Rattle.mx_event.specs.contracts.event.Event as whole;
     ghost use Rattle.std.specs.Coded.{codes};
@@ -19,5 +21,5 @@ impl Model for Plan {
 
     ghost use Rattle.mx_records.specs.declared.input.Input.TheVariants.{Event as EventInput};
 
-    ghost view = { λ plan. EventInput plan.event };
+    ghost view = { λ plan. record { input = EventInput plan.event; position = plan.position } };
 }

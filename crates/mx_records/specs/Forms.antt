@@ -1,5 +1,5 @@
 -- What an object has to hold to be an input, field by field: ours.
-use Rattle.std.specs.Prelude.{ℕ, Bool, List, ◌∷◌, map, codes, Option, None, Some, option_and_then, unwrap_or, Result, Ok, Err}
+use Rattle.std.specs.Prelude.{Bool, List, map, codes, Option, None, Some, option_and_then, unwrap_or, Result, Ok, Err}
 use Rattle.std.specs.Option.{option_map_or}
 use Rattle.mx_json.specs.declared.value.Json.{Json, Null}
 use Rattle.mx_json.specs.Json.{member}
