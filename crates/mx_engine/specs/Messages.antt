@@ -1,4 +1,5 @@
--- Which events are unread, said of an event alone: for private clauses, while whom an event notifies rests on nothing else.
+-- Which events are unread, said of an event alone: for private clauses, while whom an event
+-- notifies rests on nothing else.
 use Rattle.std.specs.Prelude.{ℕ, List, Bool, ◌&&◌}
 use Rattle.mx_json.specs.declared.value.Json.{Json}
 use Rattle.mx_records.specs.Judging.{is_message_for}

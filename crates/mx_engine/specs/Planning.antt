@@ -10,8 +10,8 @@ pub record Planned : Type 0 where
   pub input : Input
   pub position : ℕ
 
--- A plan is made for a state: its position is the next one of this snapshot, which an input may have, and its input is
--- acceptable after each history of which this is the snapshot.
+-- A plan is made for a state: its position is the next one of this snapshot, which an input may
+-- have, and its input is acceptable after each history of which this is the snapshot.
 pub record IsMadeFor (server : List ℕ) (shown : Snapshot) (plan : Planned) : Type 0 where
   pub next : plan.position ≡ inputs_in shown + 1
   pub in_range : plan.position ≤ most_inputs

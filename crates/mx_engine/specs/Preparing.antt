@@ -7,7 +7,8 @@ use Rattle.mx_engine.specs.declared.error.PrepareError.{PrepareError}
 use Rattle.mx_engine.specs.declared.error.PrepareError.TheVariants.{Refused, OutOfMemory}
 use Rattle.mx_engine.specs.Planning.{Planned}
 
--- The outcome of preparing an input: a plan to accept it, where nothing refuses it, or its refusal, or no memory.
+-- The outcome of preparing an input: a plan to accept it, where nothing refuses it, or its refusal,
+-- or no memory.
 abbrev pub IsPrepared : List ℕ → History → Input → Result Planned PrepareError → Type 0
 IsPrepared server h input (Ok plan) = (plan.input ≡ input) × IsAcceptable server h input
 IsPrepared server h input (Err (Refused refusal)) = refusal_of server h input ≡ Some refusal

@@ -14,8 +14,8 @@ use mx_records::{Counts, Input, MOST_INPUTS, Questions, Refusal};
 use std::alloc::Global;
 use std::marker::Model;
 
-/// What push_server knows of its history. Contracts see the server's name, what the engine shows of its history, and for
-/// how many more events its memory suffices. It keeps at most 1,000,000 inputs.
+/// What push_server knows of its history, of at most 1,000,000 inputs. Contracts see the server's
+/// name, what the engine shows of its history, and for how many more events its memory suffices.
 #[derive(Drop)]
 pub struct Engine {
     server: String,
@@ -67,13 +67,13 @@ impl Engine {
         self.server.as_str()
     }
 
-    /// Takes all the memory of an input, and says whether the history refuses it. The engine stands for what it stood
-    /// for.
+    /// Takes all the memory of an input, and says whether the history refuses it. The engine stands
+    /// for what it stood for.
     ///
     /// # Errors
     ///
-    /// `Refused` with the first refusal that applies, exactly where one does. `OutOfMemory` where the allocator has
-    /// none.
+    /// `Refused` with the first refusal that applies, exactly where one does. `OutOfMemory` where
+    /// the allocator has none.
     pub fn prepare(&mut self, alloc: Global, input: &Input) -> Result<Plan, PrepareError>
         ensures server { self.new.server ≡ self.old.server }
         ensures meaning { self.new.shown ≡ self.old.shown }
@@ -109,14 +109,16 @@ impl Engine {
         Ok(Plan { event, position })
     }
 
-    /// Accepts the input of a plan that was made for this state, and answers its position (from 1). Takes no memory.
+    /// Accepts the input of a plan that was made for this state, and answers its position (from 1).
+    /// Takes no memory.
     pub fn apply(&mut self, plan: Plan) -> u64
         requires capacity { 0 < self.old.capacity }
         requires made { IsMadeFor self.old.server self.old.shown plan }
         ensures server { self.new.server ≡ self.old.server }
         ensures position { result ≡ plan.position }
         ensures in_range { result ≤ most_inputs }
-        ensures next { (h : History) → self.old.shown ≡ snapshot_of self.old.server h → result ≡ position_after h }
+        ensures next { (h : History) → self.old.shown ≡ snapshot_of self.old.server h
+            → result ≡ position_after h }
         ensures step { (h : History) → self.old.shown ≡ snapshot_of self.old.server h
             → self.new.shown ≡ snapshot_of self.new.server (with_input h plan.input) }
     {
@@ -167,7 +169,8 @@ fn count_unread(events: &[Event], user: &str, room: &str) -> usize
         .count()
 }
 
-/// Whether the event is one of the room and notifies the user: a message notifies everybody but its sender.
+/// Whether the event is one of the room and notifies the user: a message notifies everybody but its
+/// sender.
 #[tactic(auto, unfolding(mx_records::specs::Judging::is_message_for))]
 fn is_unread(event: &Event, user: &str, room: &str) -> bool
     ensures { result ≡ is_unread_event user.now room.now event.now }

@@ -1,8 +1,8 @@
 //! The state of one homeserver's notifications, changed input by input.
 //!
-//! An engine stands for a history, the list of the inputs that it accepted. An input is prepared, which takes all
-//! of its memory and says whether the history refuses it, and then applied, which can't fail. Every contract is said
-//! of each history for which the engine stands.
+//! An engine stands for a history, the list of the inputs that it accepted. An input is prepared,
+//! which takes all of its memory and says whether the history refuses it, and then applied, which
+//! can't fail. Every contract is said of each history for which the engine stands.
 #![tactic(auto)]
 
 mod engine;

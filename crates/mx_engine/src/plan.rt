@@ -1,8 +1,8 @@
 use mx_event::Event;
 use std::marker::Model;
 
-/// An input that was prepared for one state of an engine: all that applying it will take. Contracts see the input, and
-/// the position that it will take.
+/// An input that was prepared for one state of an engine: all that applying it will take. Contracts
+/// see the input, and the position that it will take.
 #[derive(Drop)]
 pub struct Plan {
     pub(crate) event: Event,

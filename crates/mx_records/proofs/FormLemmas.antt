@@ -24,7 +24,8 @@ first_or true field later earlier same = same
 first_or false field later earlier same = refl
 
 first_wrong-map : (fields : List (EventField × Bool))
-    → first_wrong (map (λ field. (name_in_event field.0, field.1)) fields) ≡ option_map name_in_event (first_wrong fields)
+    → first_wrong (map (λ field. (name_in_event field.0, field.1)) fields)
+    ≡ option_map name_in_event (first_wrong fields)
 first_wrong-map [] = refl
 first_wrong-map (field ∷ fields) = first_or field.1 field.0 _ _ (first_wrong-map fields)
 
@@ -46,7 +47,8 @@ wrong_at None json field is = absurd cc
 wrong_at (Some first) json field is = cc
 
 value-event : (json : Json)
-    → value_of_form BadField (event_form json) ≡ input_with (option_map name_in_event (first_wrong_field (event_in json))) (event_in json)
+    → value_of_form BadField (event_form json)
+    ≡ input_with (option_map name_in_event (first_wrong_field (event_in json))) (event_in json)
 unfolding first_wrong_field
 value-event json = ap (λ wrong. input_with wrong (event_in json)) (first_wrong-map (fields_of (event_in json)))
 
@@ -54,10 +56,12 @@ value-event json = ap (λ wrong. input_with wrong (event_in json)) (first_wrong-
 pub value-right : (json taken event : Json) → taken ≡ event_in json → read_event taken ≡ Ok event
     → value_of_form BadField (event_form json) ≡ Ok (Event event)
 value-right json taken event same is =
-    value-event json ∙ right (first_wrong_field (event_in json)) (event_in json) event (subst (λ of. read_event of ≡ Ok event) same is)
+    value-event json
+    ∙ right (first_wrong_field (event_in json)) (event_in json) event (subst (λ of. read_event of ≡ Ok event) same is)
 
 -- an object with no event is refused at the event's first wrong field
-pub value-wrong : (json taken : Json) (error : EventError) (field : EventField) → taken ≡ event_in json → error ≡ BadEvent field
+pub value-wrong : (json taken : Json) (error : EventError) (field : EventField)
+    → taken ≡ event_in json → error ≡ BadEvent field
     → (read_event taken ≡ Err error) ⊎ (error ≡ OutOfMemory)
     → value_of_form BadField (event_form json) ≡ Err (BadField (name_in_event field))
 value-wrong json taken error field same at (inr memory) = absurd cc
@@ -71,7 +75,8 @@ abbrev by_form : Option (Form Input) → Result Input InputError
 by_form form = option_map_or (value_of_form BadField) form (Err (BadField Cmd))
 
 -- an object whose word has a form is what the form gives
-pub input_in-form : (json : Json) (word : InputWord) (form : Form Input) → input_word_in json ≡ Some word → input_form_of word json ≡ Some form
+pub input_in-form : (json : Json) (word : InputWord) (form : Form Input)
+    → input_word_in json ≡ Some word → input_form_of word json ≡ Some form
     → input_in json ≡ value_of_form BadField form
 unfolding input_in
 input_in-form json word form has is =

@@ -16,14 +16,16 @@ use Rattle.mx_records.specs.declared.input_word.InputWord.{InputWord}
 use Rattle.mx_records.specs.declared.input_word.InputWord.TheVariants.{Event as EventWord}
 use Rattle.mx_records.specs.InputWords.{input_word_in}
 
--- A form: the fields of an object in their order, each with whether it is right, and what the object is where all are.
+-- A form: the fields of an object in their order, each with whether it is right, and what the
+-- object is where all are.
 pub record Form (A : Type 0) : Type 0 where
   pub fields : List (FieldName × Bool)
   pub value : A
 
 -- what the object of a form is, or the refusal of the first field that is missing or wrong
 abbrev pub value_of_form : {A E : Type 0} → (FieldName → E) → Form A → Result A E
-value_of_form refusal form = option_map_or (λ field. Err (refusal field)) (first_wrong form.fields) (Ok form.value)
+value_of_form refusal form =
+    option_map_or (λ field. Err (refusal field)) (first_wrong form.fields) (Ok form.value)
 
 -- ---- the forms of the inputs
 
@@ -58,6 +60,7 @@ input_form_of other json = None
 abbrev pub input_form_in : Json → Option (Form Input)
 input_form_in json = option_and_then (λ word. input_form_of word json) (input_word_in json)
 
--- The input that a value is, or its first field that is missing or wrong: `cmd` first, where no form has its word.
+-- The input that a value is, or its first field that is missing or wrong: `cmd` first, where no
+-- form has its word.
 unfoldable pub input_in : Json → Result Input InputError
 input_in json = option_map_or (value_of_form BadField) (input_form_in json) (Err (BadField Cmd))

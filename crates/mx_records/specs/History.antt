@@ -9,7 +9,7 @@ use Rattle.mx_records.specs.declared.input.Input.TheVariants.{Event}
 abbrev pub History : Type 0
 History = List Input
 
--- The history goes on with this input.
+-- The history with this input at its end.
 abbrev pub with_input : History → Input → History
 with_input h input = h ++ input ∷ []
 
@@ -17,7 +17,7 @@ with_input h input = h ++ input ∷ []
 abbrev pub inputs_of : History → ℕ
 inputs_of h = length h
 
--- The position of an input is its number among the inputs, from 1: that of the input which comes straight after a history.
+-- The position of the input that comes straight after a history: inputs are numbered from 1.
 abbrev pub position_after : History → ℕ
 position_after before = inputs_of before + 1
 

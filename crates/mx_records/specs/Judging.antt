@@ -8,7 +8,8 @@ use Rattle.mx_records.specs.History.{Happening}
 
 -- an event of type m.room.message that another user sent
 unfoldable pub is_message_for : List ℕ → Json → Bool
-is_message_for user event = bytes_eq (kind_of event) (codes "m.room.message") && not (bytes_eq (sender_of event) user)
+is_message_for user event =
+    bytes_eq (kind_of event) (codes "m.room.message") && not (bytes_eq (sender_of event) user)
 
 -- A message notifies everybody but its sender.
 abbrev pub notifies : List ℕ → List ℕ → Happening → Bool

@@ -21,7 +21,8 @@ is_named id event = bytes_eq (event_id_of event) id
 -- where the event with this id was accepted first
 unfoldable pub position_of : History → List ℕ → Option ℕ
 position_of h id =
-    option_map (λ happening. position_after happening.before) (find (λ happening. is_named id happening.event) (events h))
+    option_map (λ happening. position_after happening.before)
+    (find (λ happening. is_named id happening.event) (events h))
 
 -- as many inputs as a history may have
 abbrev pub most_inputs : ℕ
@@ -31,13 +32,16 @@ most_inputs = 1000000
 abbrev pub is_full : History → Bool
 is_full h = nat_le most_inputs (inputs_of h)
 
--- why a history refuses an input for what it says: an event whose id was accepted is known, at its position
+-- why a history refuses an input for what it says: an event whose id was accepted is known, at
+-- its position
 abbrev pub refusal_of_content : List ℕ → History → Input → Option Refusal
-refusal_of_content server h (Event event) = option_map KnownEvent (position_of h (event_id_of event))
+refusal_of_content server h (Event event) =
+    option_map KnownEvent (position_of h (event_id_of event))
 
 -- Why a history refuses an input: for what it says, and else because the history is full.
 unfoldable pub refusal_of : List ℕ → History → Input → Option Refusal
-refusal_of server h input = option_or (refusal_of_content server h input) (if is_full h then Some Full else None)
+refusal_of server h input =
+    option_or (refusal_of_content server h input) (if is_full h then Some Full else None)
 
 -- An input may come next where nothing refuses it.
 abbrev pub IsAcceptable : List ℕ → History → Input → Type 0

@@ -51,7 +51,8 @@ impl Input {
 /// The input of an object whose word is `event`.
 fn read_event(alloc: Global, json: Json) -> Result<Input, InputError>
     requires { is_valid json ≡ true }
-    ensures { Gives InputError.OutOfMemory result (value_of_form InputError.BadField (event_form json)) }
+    ensures { Gives InputError.OutOfMemory result
+        (value_of_form InputError.BadField (event_form json)) }
 {
     match Event::from_json(alloc, take_event(json)) {
         Ok(event) => Ok(Input::Event(event)),

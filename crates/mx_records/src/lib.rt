@@ -1,8 +1,9 @@
 //! What a history of notifications is made of, what it refuses, and what it answers.
 //!
-//! A history is the list of the inputs that were accepted; each answer is a definition over the whole list
-//! (`specs/`). An input is read from a JSON object by the form that its word asks for (`specs/Forms.antt`). A state
-//! that stands for a history shows a snapshot of it, and is asked by way of [`Questions`].
+//! A history is the list of the inputs that were accepted; each answer is a definition over the
+//! whole list (`specs/`). An input is read from a JSON object by the form that its word asks for
+//! (`specs/Forms.antt`). A state that stands for a history shows a snapshot of it, and is asked by
+//! way of [`Questions`].
 #![tactic(auto)]
 
 mod counts;

@@ -7,7 +7,8 @@ ghost use Rattle.mx_records.specs.Snapshot.{Snapshot, snapshot_of};
 use crate::Counts;
 use mx_json::{RoomId, UserId};
 
-/// What a state that stands for a history can be asked. No question takes memory or changes the state.
+/// What a state that stands for a history can be asked. No question takes memory or changes the
+/// state.
 pub trait Questions {
     /// The name of the homeserver whose users are local.
     ghost server: { Self → List ℕ };

@@ -13,7 +13,8 @@ returns-in-Some-clause-exact c h is =
 pub returns-then-is_full-clause-exact : goal.returns-then-is_full-clause-exact
 returns-then-is_full-clause-exact c h is =
     refusal-found c.args.self.now.server h _ c.args.event.now _ _ _ _ _ (ap (λ (v : View). v.shown) c.self.view_is ∙ is)
-    c.deref.ensures.value c.deref-2.ensures.value (c.as_text.ensures.text ∙ c.event_id.ensures) c.in_default.ensures c.if-is_full.ensures
+    c.deref.ensures.value c.deref-2.ensures.value (c.as_text.ensures.text ∙ c.event_id.ensures)
+    c.in_default.ensures c.if-is_full.ensures
 
 pub returns-clause-made : goal.returns-clause-made
 returns-clause-made c =
@@ -26,5 +27,6 @@ pub returns-clause-exact : goal.returns-clause-exact
 returns-clause-exact c h is = (
   ap Event c.in_ok-event.ensures,
   refusal-found c.args.self.now.server h _ c.args.event.now _ _ _ _ _ (ap (λ (v : View). v.shown) c.self.view_is ∙ is)
-      c.deref.ensures.value c.deref-2.ensures.value (c.as_text.ensures.text ∙ c.event_id.ensures) c.in_default.ensures c.if-is_full.ensures,
+      c.deref.ensures.value c.deref-2.ensures.value (c.as_text.ensures.text ∙ c.event_id.ensures)
+      c.in_default.ensures c.if-is_full.ensures,
 )
