@@ -1,4 +1,3 @@
-pub mod MemberLemmas
 pub mod JsonLemmas
 pub mod Induction
 pub mod PathLemmas

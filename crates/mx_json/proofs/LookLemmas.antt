@@ -2,13 +2,12 @@
 use Rattle.std.proofs.Common.{◌≡◌, ℕ, ◌+◌, ◌<◌, true, List, length, get_or, drop, slice_get, Some, option_map, option_and_then, sym, ap, ◌∙◌}
 use Rattle.std.proofs.lemmas.List.{at_drop_more}
 use Rattle.std.proofs.lemmas.Option.{slice_get-get_or}
-use Rattle.mx_json.specs.declared.value.Json.{Json, Object, the_lemmas}
+use Rattle.mx_json.specs.declared.value.Json.{Json, Object}
 use Rattle.mx_json.specs.declared.value.JsonObject.{JsonObject}
-use Rattle.mx_json.specs.Json.{is_canonical, is_valid, are_rising, member, member_in}
+use Rattle.mx_json.specs.Json.{is_canonical, is_valid, are_rising, member, member_in, IsMemberAt}
 use Rattle.mx_json.specs.Path.{look}
 use Rattle.mx_json.proofs.JsonLemmas.{is_valid_parts}
 use Rattle.mx_json.proofs.RisingLemmas.{keys_of, canonical_object}
-use Rattle.std.proofs.Common.{rules}
 
 pub look_step : (path : List (List ℕ)) (i : ℕ) (key : List ℕ) (here next : Json) → i < length path → key ≡ get_or path i key → Some next ≡ member key here → look (drop i path) here ≡ look (drop (i + 1) path) next
 look_step path i key here next within is found =
@@ -20,11 +19,8 @@ look_step path i key here next within is found =
 pub are_rising-valid : (json : Json) (object : JsonObject) → is_valid json ≡ true → json ≡ Object object → are_rising (keys_of object.pairs) ≡ true
 are_rising-valid json object valid is = (canonical_object object (sym (ap is_canonical is) ∙ (is_valid_parts json valid).0)).0
 
-member-Object : (key : List ℕ) (object : JsonObject) → member key (Object object) ≡ member_in key object.pairs
-member-Object key object = search (rules, the_lemmas)
-
--- the member that stands at a place
-pub member_at : (key : List ℕ) (json : Json) (object : JsonObject) (at : ℕ) (pair : List ℕ × Json) → json ≡ Object object → at < length object.pairs → pair ≡ get_or object.pairs at pair
-    → member_in key object.pairs ≡ option_map (λ p. p.1) (slice_get object.pairs at) → Some pair.1 ≡ member key json
-member_at key json object at pair is within here found =
-    ap (λ p. Some p.1) here ∙ sym (ap (option_map (λ p. p.1)) (slice_get-get_or object.pairs at pair within)) ∙ sym found ∙ sym (member-Object key object) ∙ sym (ap (member key) is)
+-- the value that stands at a place
+pub member_in_place : (key : List ℕ) (pairs : List (List ℕ × Json)) (at : ℕ) (pair : List ℕ × Json)
+    → IsMemberAt key pairs at → pair ≡ get_or pairs at pair → member_in key pairs ≡ Some pair.1
+member_in_place key pairs at pair found is =
+    found.1 ∙ ap (option_map (λ p. p.1)) (slice_get-get_or pairs at pair found.0) ∙ sym (ap (λ p. Some p.1) is)

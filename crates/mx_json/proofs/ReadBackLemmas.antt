@@ -14,7 +14,7 @@ use Rattle.serde_json.specs.Written.{outline, items_outline, members_outline}
 use Rattle.serde_json.proofs.Numbers.{number_of-decimal, number_of-negative}
 use Rattle.mx_json.specs.declared.value.Json.{Json, Whole, List as ListOf, Object, the_lemmas}
 use Rattle.mx_json.specs.Json.{depth_of, largest, is_whole, largest_whole, is_canonical, is_valid, are_rising}
-use Rattle.mx_json.specs.Reading.{whole_of, all_whole, all_whole_items, all_whole_members, json_of, items_of, pairs_of, reading, whole_json, json_within, read_json}
+use Rattle.mx_json.specs.Reading.{whole_number_of, all_whole, all_whole_items, all_whole_members, json_of, items_of, pairs_of, reading, whole_json, json_within, read_json}
 use Rattle.mx_json.specs.Tokens.{data_of, items_data, pairs_data, tokens_of}
 use Rattle.mx_json.proofs.DataLemmas.{data_of-Null, data_of-Truth, data_of-Whole, data_of-Text, data_of-List, data_of-Object}
 use Rattle.mx_json.proofs.Induction.{Each, EachValue, every}
@@ -33,11 +33,11 @@ whole_read : (n : ℤ) → is_whole n ≡ true → of_json (outline (number (of_
 whole_read (pos n) h = ap (option_map number) (number_of-decimal n (omega (arith, largest_from_is_whole n h)))
 whole_read (negsuc n) h = ap (option_map number) (number_of-negative n (omega (arith, largest_from_is_whole (suc n) h)))
 
-whole_of-of_integer : (n : ℤ) → is_whole n ≡ true → whole_of (of_integer n) ≡ Some n
-whole_of-of_integer (pos n) h =
+whole_number_of-of_integer : (n : ℤ) → is_whole n ≡ true → whole_number_of (of_integer n) ≡ Some n
+whole_number_of-of_integer (pos n) h =
     let fits : n < 2 ^ 63 = omega (arith, largest_from_is_whole n h) in
     rw (lt-ltb _ _ fits, h)
-whole_of-of_integer (negsuc n) h = rw h
+whole_number_of-of_integer (negsuc n) h = rw h
 
 -- ---- the tokens are read as the data
 
@@ -105,7 +105,7 @@ is_back : (v : Json) → IsBack v
 is_back = every IsBack record {
   null = λ canonical. ap json_of data_of-Null;
   truth = λ truth canonical. ap json_of (data_of-Truth truth);
-  whole = λ n canonical. ap json_of (data_of-Whole n) ∙ ap (λ o. Whole (unwrap_or o (pos 0))) (whole_of-of_integer n (sym (is_canonical-Whole n) ∙ canonical));
+  whole = λ n canonical. ap json_of (data_of-Whole n) ∙ ap (λ o. Whole (unwrap_or o (pos 0))) (whole_number_of-of_integer n (sym (is_canonical-Whole n) ∙ canonical));
   text = λ text canonical. ap json_of (data_of-Text text);
   list = λ list h canonical. ap json_of (data_of-List list) ∙ ap (λ items. ListOf record { items = items }) (items_back list.items h (sym (is_canonical-List list) ∙ canonical));
   object = λ whole h canonical. ap json_of (data_of-Object whole) ∙ ap (λ pairs. Object record { pairs = pairs }) (pairs_back whole.pairs h (canonical_object whole canonical).1);
@@ -130,7 +130,7 @@ has_whole : (v : Json) → HasWhole v
 has_whole = every HasWhole record {
   null = λ canonical. ap all_whole data_of-Null;
   truth = λ truth canonical. ap all_whole (data_of-Truth truth);
-  whole = λ n canonical. ap all_whole (data_of-Whole n) ∙ ap is_some (whole_of-of_integer n (sym (is_canonical-Whole n) ∙ canonical));
+  whole = λ n canonical. ap all_whole (data_of-Whole n) ∙ ap is_some (whole_number_of-of_integer n (sym (is_canonical-Whole n) ∙ canonical));
   text = λ text canonical. ap all_whole (data_of-Text text);
   list = λ list h canonical. ap all_whole (data_of-List list) ∙ items_whole list.items h (sym (is_canonical-List list) ∙ canonical);
   object = λ whole h canonical. ap all_whole (data_of-Object whole) ∙ pairs_whole whole.pairs h (canonical_object whole canonical).1;

@@ -12,9 +12,9 @@ use Rattle.serde_json.specs.Data.{Num, Data, null, boolean, number, string, arra
 use Rattle.serde_json.specs.Read.{max_depth, number_of, of_items, of_json, of_members, read}
 use Rattle.mx_json.specs.declared.value.Json.{Whole, the_lemmas}
 use Rattle.mx_json.specs.Json.{are_rising, depth_of, is_canonical, is_valid, largest}
-use Rattle.mx_json.specs.Reading.{all_whole, all_whole_items, all_whole_members, items_of, json_of, pairs_of, whole_of}
+use Rattle.mx_json.specs.Reading.{all_whole, all_whole_items, all_whole_members, items_of, json_of, pairs_of, whole_number_of}
 use Rattle.mx_json.specs.Utf8.{has_utf8}
-use Rattle.mx_json.proofs.WholeLemmas.{whole_of-some}
+use Rattle.mx_json.proofs.WholeLemmas.{whole_number_of-some}
 use Rattle.mx_json.proofs.JsonLemmas.{depth_of-List, depth_of-Object, is_canonical-List, is_canonical-Object, is_canonical-Whole, is_valid_from, with_value}
 
 -- ---- the keys of an object that was read
@@ -158,12 +158,12 @@ keys_of-pairs_of : (ms : Members) → map (λ pair. pair.0) (map (with_value is_
 keys_of-pairs_of no_members = refl
 keys_of-pairs_of (member key d ms) = ap (λ keys. key ∷ keys) (keys_of-pairs_of ms)
 
-is_canonical-read : (n : Num) (read_as : Option ℤ) → whole_of n ≡ read_as → is_some read_as ≡ true → is_canonical (Whole (unwrap_or read_as (pos 0))) ≡ true
+is_canonical-read : (n : Num) (read_as : Option ℤ) → whole_number_of n ≡ read_as → is_some read_as ≡ true → is_canonical (Whole (unwrap_or read_as (pos 0))) ≡ true
 is_canonical-read n None is whole = absurd cc
-is_canonical-read n (Some z) is whole = is_canonical-Whole z ∙ le-leb _ _ (whole_of-some n z is)
+is_canonical-read n (Some z) is whole = is_canonical-Whole z ∙ le-leb _ _ (whole_number_of-some n z is)
 
 is_canonical-number : (n : Num) → all_whole (number n) ≡ true → is_canonical (json_of (number n)) ≡ true
-is_canonical-number n whole = is_canonical-read n (whole_of n) refl whole
+is_canonical-number n whole = is_canonical-read n (whole_number_of n) refl whole
 
 mutual
   pub is_canonical-json_of : (d : Data) → all_whole d ≡ true → Rises d → is_canonical (json_of d) ≡ true

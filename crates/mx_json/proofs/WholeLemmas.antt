@@ -15,7 +15,7 @@ use Rattle.mx_json.specs.declared.reading.JsonError.{JsonError}
 use Rattle.mx_json.specs.declared.reading.JsonError.TheVariants.{NotWhole}
 use Rattle.mx_json.specs.declared.value.Json.{Json, Null, Truth, Whole, Text, List as ListOf, Object}
 use Rattle.mx_json.specs.Json.{is_whole}
-use Rattle.mx_json.specs.Reading.{in_range, all_whole, all_whole_items, all_whole_members, items_of, json_of, pairs_of, whole_items, whole_json, whole_of, whole_or, whole_pairs}
+use Rattle.mx_json.specs.Reading.{in_range, all_whole, all_whole_items, all_whole_members, items_of, json_of, pairs_of, whole_items, whole_json, whole_number_of, whole_or, whole_pairs}
 
 -- ---- plain values
 
@@ -43,11 +43,11 @@ pub whole_json-String : (text : String Global) → whole_json (view (value.Strin
 unfolding whole_json
 whole_json-String text = rw view-String
 
-pub whole_json-Number : (n : Number) (z : ℤ) → whole_of (number_view n) ≡ Some z → whole_json (view (value.Number n)) ≡ Ok (Whole z)
+pub whole_json-Number : (n : Number) (z : ℤ) → whole_number_of (number_view n) ≡ Some z → whole_json (view (value.Number n)) ≡ Ok (Whole z)
 unfolding whole_json
 whole_json-Number n z is = rw (view-Number n, is)
 
-pub whole_json-no_whole : (n : Number) → whole_of (number_view n) ≡ None → whole_json (view (value.Number n)) ≡ Err NotWhole
+pub whole_json-no_whole : (n : Number) → whole_number_of (number_view n) ≡ None → whole_json (view (value.Number n)) ≡ Err NotWhole
 unfolding whole_json
 whole_json-no_whole n is = rw (view-Number n, is)
 
@@ -58,15 +58,15 @@ in_range-some n z is =
     let at_z : is_whole z ≡ true = rw told.1 at told.0 in
     leb-true (nat_abs z) 9007199254740991 at_z
 
-pub whole_of-some : (n : Num) (z : ℤ) → whole_of n ≡ Some z → nat_abs z ≤ 9007199254740991
-whole_of-some n z is = option_and_then_some in_range (as_i64 n) z is (λ x found told. in_range-some x z told)
+pub whole_number_of-some : (n : Num) (z : ℤ) → whole_number_of n ≡ Some z → nat_abs z ≤ 9007199254740991
+whole_number_of-some n z is = option_and_then_some in_range (as_i64 n) z is (λ x found told. in_range-some x z told)
 
 fits_64 : (z : ℤ) → nat_abs z ≤ 9007199254740991 → FitsSigned w64 z
 fits_64 (pos n) small = omega arith
 fits_64 (negsuc n) small = omega arith
 
-pub to_z-of_whole : (n : Num) (z : ℤ) → whole_of n ≡ Some z → to_z w64 (of_z w64 z) ≡ z
-to_z-of_whole n z is = to_z-of_z w64 z (fits_64 z (whole_of-some n z is))
+pub to_z-of_whole : (n : Num) (z : ℤ) → whole_number_of n ≡ Some z → to_z w64 (of_z w64 z) ≡ z
+to_z-of_whole n z is = to_z-of_z w64 z (fits_64 z (whole_number_of-some n z is))
 
 -- ---- what an answer tells
 

@@ -1,5 +1,5 @@
 -- What a JSON value holds, how deep it is nested, and when it is valid: RFC 8259, with the numbers and the order of keys of Matrix's canonical JSON.
-use Rattle.std.specs.Prelude.{◌≡◌, ◌<◌, length, slice_get, option_map, ℕ, suc, max, ℤ, nat_abs, nat_le, Bool, true, false, ◌&&◌, if◌then◌else◌, List, [], ◌∷◌, map, Option, Some, None, option_and_then}
+use Rattle.std.specs.Prelude.{◌≡◌, ◌<◌, length, slice_get, option_map, ℕ, suc, max, ℤ, nat_abs, nat_le, Bool, true, false, ◌&&◌, if◌then◌else◌, List, [], ◌∷◌, map, Option, Some, None, option_and_then, unwrap_or}
 use Rattle.std.specs.Cmp.Lexicographic.{slice_cmp}
 use Rattle.std.specs.List.{list_all}
 use Rattle.std.specs.Ordering.{is_lt, nat_cmp}
@@ -38,18 +38,58 @@ is_object_at_top other = false
 abbrev pub is_object : Json → Bool
 is_object json = is_object_at_top (out-Json json)
 
--- the bytes at the top of a value: those of a text, and none for any other
+-- the text, the truth value, the whole number or the list at the top of a value, and none for any other
 abbrev pub top_text : Json-F Json JsonList JsonObject → Option (List ℕ)
 top_text (Json-F.Text text) = Some text
 top_text other = None
+
+abbrev pub top_truth : Json-F Json JsonList JsonObject → Option Bool
+top_truth (Json-F.Truth truth) = Some truth
+top_truth other = None
+
+abbrev pub top_whole : Json-F Json JsonList JsonObject → Option ℤ
+top_whole (Json-F.Whole number) = Some number
+top_whole other = None
+
+abbrev pub top_list : Json-F Json JsonList JsonObject → Option (List Json)
+top_list (Json-F.List list) = Some list.items
+top_list other = None
 
 -- the bytes of a text; other values have none
 abbrev pub text_of : Json → Option (List ℕ)
 text_of json = top_text (out-Json json)
 
+-- the truth value that a value is; other values are none
+abbrev pub truth_of : Json → Option Bool
+truth_of json = top_truth (out-Json json)
+
+-- the whole number that a value is; other values are none
+abbrev pub whole_of : Json → Option ℤ
+whole_of json = top_whole (out-Json json)
+
+-- the members of a list; other values have none
+abbrev pub list_of : Json → Option (List Json)
+list_of json = top_list (out-Json json)
+
 -- the bytes of the text that is the member with this key
 abbrev pub text_at : List ℕ → Json → Option (List ℕ)
 text_at key json = option_and_then text_of (member key json)
+
+-- the same, and the empty text where there is none
+abbrev pub text_or_empty : List ℕ → Json → List ℕ
+text_or_empty key json = unwrap_or (text_at key json) []
+
+-- the truth value that is the member with this key
+abbrev pub truth_at : List ℕ → Json → Option Bool
+truth_at key json = option_and_then truth_of (member key json)
+
+-- the whole number that is the member with this key
+abbrev pub whole_at : List ℕ → Json → Option ℤ
+whole_at key json = option_and_then whole_of (member key json)
+
+-- the members of the list that is the member with this key
+abbrev pub list_at : List ℕ → Json → Option (List Json)
+list_at key json = option_and_then list_of (member key json)
 
 -- ---- depth
 

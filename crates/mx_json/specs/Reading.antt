@@ -19,15 +19,15 @@ abbrev pub in_range : ℤ → Option ℤ
 in_range n = if is_whole n then Some n else None
 
 -- the whole number that a number is: one with a full stop or an exponent is none, and neither is `-0`
-abbrev pub whole_of : Num → Option ℤ
-whole_of n = option_and_then in_range (as_i64 n)
+abbrev pub whole_number_of : Num → Option ℤ
+whole_number_of n = option_and_then in_range (as_i64 n)
 
 -- each number in the value is whole
 abbrev mutual
   pub all_whole : Data → Bool
   all_whole null = true
   all_whole (boolean truth) = true
-  all_whole (number n) = is_some (whole_of n)
+  all_whole (number n) = is_some (whole_number_of n)
   all_whole (string bytes) = true
   all_whole (array items) = all_whole_items items
   all_whole (object members) = all_whole_members members
@@ -45,7 +45,7 @@ abbrev mutual
   pub json_of : Data → Json
   json_of null = Null
   json_of (boolean truth) = Truth truth
-  json_of (number n) = Whole (unwrap_or (whole_of n) (pos 0))
+  json_of (number n) = Whole (unwrap_or (whole_number_of n) (pos 0))
   json_of (string bytes) = Text bytes
   json_of (array items) = ListOf record { items = items_of items }
   json_of (object members) = Object record { pairs = pairs_of members }

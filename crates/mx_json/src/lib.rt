@@ -9,6 +9,7 @@ mod canonical;
 mod event_id;
 mod folded;
 mod id;
+mod member;
 mod memory;
 mod meter;
 mod nesting;

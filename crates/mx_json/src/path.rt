@@ -1,6 +1,6 @@
-ghost use Rattle.std.specs.Prelude.{◌≡◌, true, false, List, [], ◌∷◌, ℕ, ◌++◌, map, encode_utf8, string_bytes, IfOk, IfSome, OnOk, MatchOption};
+ghost use Rattle.std.specs.Prelude.{◌≡◌, true, false, List, [], ◌∷◌, ℕ, ◌++◌, encode_utf8, string_bytes, IfOk, IfSome, OnOk};
 ghost use Rattle.std.specs.Option.{option_copied};
-ghost use Rattle.mx_json.specs.Json.{is_valid, are_rising, member, member_in, IsMemberAt};
+ghost use Rattle.mx_json.specs.Json.{is_valid};
 ghost use Rattle.mx_json.specs.Path.{is_escapable, segments, look};
 ghost use Rattle.mx_json.specs.PathReader.{segments_with};
 
@@ -66,36 +66,10 @@ impl Json {
     {
         let mut here = self;
         for segment in path.segments.as_slice() {
-            here = here.member_of_valid(segment.as_str())?;
+            here = here.member(segment.as_str())?;
         }
         Some(here)
     }
-
-    /// The member of a valid value with this key, found by halving; `None` exactly where there is
-    /// none, or the value is no object.
-    pub fn member_of_valid(&self, key: &str) -> Option<&Json>
-        requires { is_valid self.now ≡ true }
-        ensures found { option_copied result ≡ member key.now self.now }
-        ensures valid { IfSome result (λ json. is_valid json.now ≡ true) }
-    {
-        match self {
-            Json::Object(object) => {
-                let pairs = object.pairs.as_slice();
-                let at = place_among_rising(pairs, key)?;
-                Some(&pairs[at].1)
-            }
-            _ => None,
-        }
-    }
-}
-
-// The place of the pair with this key, where the keys rise.
-fn place_among_rising(pairs: &[(JsonText, Json)], key: &str) -> Option<usize>
-    requires { are_rising (map (λ pair. pair.0) pairs.now) ≡ true }
-    ensures { MatchOption result (member_in key.now pairs.now ≡ None)
-        (λ at. IsMemberAt key.now pairs.now at) }
-{
-    pairs.binary_search_by(|pair| pair.0.as_str().cmp(key)).ok()
 }
 
 // A text on its way to segments: those that have ended, the one that is open, and whether a

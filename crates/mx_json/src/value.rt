@@ -1,6 +1,6 @@
-ghost use Rattle.std.specs.Prelude.{◌≡◌, ◌↔◌, true, [], length, slice_get, option_map, IfOk, IfSome, IsTrue, MatchOption};
+ghost use Rattle.std.specs.Prelude.{◌≡◌, ◌↔◌, true, [], length, slice_get, option_map, IfOk, IfSome, IsTrue};
 ghost use Rattle.std.specs.Option.{option_copied};
-ghost use Rattle.mx_json.specs.Json.{is_object, is_valid, member, member_in, text_of, IsMemberAt};
+ghost use Rattle.mx_json.specs.Json.{is_object, is_valid, list_of, text_of, truth_of, whole_of};
 
 use crate::memory::OutOfMemory;
 use crate::text::JsonText;
@@ -42,17 +42,6 @@ pub struct JsonObject {
 }
 
 impl Json {
-    /// The member of an object with this key; `None` exactly where there is none, or the value is
-    /// no object.
-    pub fn member(&self, key: &str) -> Option<&Json>
-        ensures { option_copied result ≡ member key.now self.now }
-    {
-        match self {
-            Json::Object(object) => object.get(key),
-            _ => None,
-        }
-    }
-
     /// Whether the value is an object.
     pub fn is_object(&self) -> bool
         ensures { result ≡ is_object self.now }
@@ -66,6 +55,38 @@ impl Json {
     {
         match self {
             Json::Text(text) => Some(text.as_str()),
+            _ => None,
+        }
+    }
+
+    /// The truth value that the value is; `None` exactly where it is none.
+    pub fn as_truth(&self) -> Option<bool>
+        ensures { result ≡ truth_of self.now }
+    {
+        match self {
+            Json::Truth(truth) => Some(*truth),
+            _ => None,
+        }
+    }
+
+    /// The whole number that the value is; `None` exactly where it is none.
+    pub fn as_whole(&self) -> Option<i64>
+        ensures { result ≡ whole_of self.now }
+    {
+        match self {
+            Json::Whole(number) => Some(*number),
+            _ => None,
+        }
+    }
+
+    /// The list that the value is; `None` exactly where it is none.
+    pub fn as_list(&self) -> Option<&JsonList>
+        ensures list { option_map (λ list. list.now.items) result ≡ list_of self.now }
+        ensures valid { is_valid self.now ≡ true
+            → IfSome result (λ list. is_valid (Json.List list.now) ≡ true) }
+    {
+        match self {
+            Json::List(list) => Some(list),
             _ => None,
         }
     }
@@ -130,14 +151,6 @@ impl JsonList {
 }
 
 impl JsonObject {
-    /// The value of the member with this key; `None` exactly where there is no such member.
-    pub fn get(&self, key: &str) -> Option<&Json>
-        ensures { option_copied result ≡ member_in key.now self.now.pairs }
-    {
-        let at = place_of(self.pairs.as_slice(), key)?;
-        Some(&self.pairs.as_slice()[at].1)
-    }
-
     /// The key and the value at this place, counted from 0; `None` exactly past the last.
     pub fn pair_at(&self, k: usize) -> Option<(&str, &Json)>
         ensures { option_map (λ pair. (pair.0.now, pair.1.now)) result
@@ -163,19 +176,6 @@ impl JsonObject {
         self.pairs.is_empty()
     }
 
-    /// Moves the value of the member with this key out of the object; `None` exactly where there is
-    /// no such member.
-    pub fn into_member(self, key: &str) -> Option<Json>
-        ensures member { result ≡ member_in key.now self.pairs }
-        ensures valid { is_valid (Json.Object self) ≡ true
-            → IfSome result (λ json. is_valid json ≡ true) }
-    {
-        let JsonObject { mut pairs } = self;
-        let at = place_of(pairs.as_slice(), key)?;
-        let (_, value) = pairs.remove(at);
-        Some(value)
-    }
-
     /// An equal object of its own.
     ///
     /// # Errors
@@ -191,18 +191,4 @@ impl JsonObject {
         }
         Ok(JsonObject { pairs })
     }
-}
-
-// The place of the first pair with this key.
-fn place_of(pairs: &[(JsonText, Json)], key: &str) -> Option<usize>
-    ensures { MatchOption result
-        (member_in key.now pairs.now ≡ None)
-        (λ at. IsMemberAt key.now pairs.now at) }
-{
-    for (at, (name, _)) in pairs.iter().enumerate() {
-        if name.as_str() == key {
-            return Some(at);
-        }
-    }
-    None
 }

@@ -3,7 +3,7 @@
 ghost use Rattle.std.specs.Prelude.{◌≡◌, []};
 ghost use Rattle.serde_json.specs.View.{items_view, members_view, number_view, view};
 ghost use Rattle.mx_json.specs.Gives.{Gives};
-ghost use Rattle.mx_json.specs.Reading.{whole_items, whole_json, whole_of, whole_pairs};
+ghost use Rattle.mx_json.specs.Reading.{whole_items, whole_json, whole_number_of, whole_pairs};
 
 use crate::reading::JsonError;
 use crate::text::JsonText;
@@ -21,7 +21,7 @@ pub fn whole_json(alloc: Global, value: &Value) -> Result<Json, JsonError>
     match value {
         Value::Null => Ok(Json::Null),
         Value::Bool(truth) => Ok(Json::Truth(*truth)),
-        Value::Number(number) => match whole_of(number) {
+        Value::Number(number) => match whole_number_of(number) {
             Some(number) => Ok(Json::Whole(number)),
             None => Err(JsonError::NotWhole),
         },
@@ -61,8 +61,8 @@ fn whole_pairs(
     Ok(done)
 }
 
-fn whole_of(number: &Number) -> Option<i64>
-    ensures { result ≡ whole_of (number_view number.now) }
+fn whole_number_of(number: &Number) -> Option<i64>
+    ensures { result ≡ whole_number_of (number_view number.now) }
 {
     let whole = number.as_i64()?;
     if whole.unsigned_abs() <= LARGEST_WHOLE {

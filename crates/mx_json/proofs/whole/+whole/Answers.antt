@@ -3,7 +3,7 @@ use Rattle.std.proofs.lemmas.Result.{err_from_is_err_and}
 use Rattle.serde_json.specs.View.{members_view, number_view}
 use Rattle.serde_json.proofs.Views.{Entry}
 use Rattle.mx_json.specs.declared.value.Json.{Text, Whole}
-use Rattle.mx_json.specs.Reading.{whole_of, whole_pairs}
+use Rattle.mx_json.specs.Reading.{whole_number_of, whole_pairs}
 use Rattle.mx_json.proofs.WholeLemmas.{told_by_part, to_z-of_whole, whole_items-all, whole_items-more, whole_items-stops, whole_json-Array, whole_json-Array_stops, whole_json-Bool, whole_json-Null, whole_json-Number, whole_json-Object, whole_json-Object_stops, whole_json-String, whole_json-no_whole, whole_pairs-all, whole_pairs-more, whole_pairs-stops}
 use Rattle.mx_json.proofs.whole.+whole.Goals as goal
 
@@ -46,11 +46,11 @@ whole_json-returns-in-Bool t c = rw c.in-Bool.is (whole_json-Bool c.in-Bool.trut
 pub whole_json-returns-in-Some : goal.whole_json-returns-in-Some
 whole_json-returns-in-Some t c =
     let n = c.in-Number.number in
-    let is : whole_of (number_view n) ≡ Some c.in-Some.number = sym c.whole_of.ensures ∙ c.in-Some.is in
+    let is : whole_number_of (number_view n) ≡ Some c.in-Some.number = sym c.whole_number_of.ensures ∙ c.in-Some.is in
     rw c.in-Number.is (whole_json-Number n c.in-Some.number is ∙ ap (λ z. Ok (Whole z)) (sym (to_z-of_whole (number_view n) c.in-Some.number is)))
 
 pub whole_json-returns-in-None : goal.whole_json-returns-in-None
-whole_json-returns-in-None t c = inl (rw c.in-Number.is (whole_json-no_whole c.in-Number.number (sym c.whole_of.ensures ∙ c.in-None.is)))
+whole_json-returns-in-None t c = inl (rw c.in-Number.is (whole_json-no_whole c.in-Number.number (sym c.whole_number_of.ensures ∙ c.in-None.is)))
 
 pub whole_json-returns-in_ok-read-in-String : goal.whole_json-returns-in_ok-read-in-String
 whole_json-returns-in_ok-read-in-String t c =

@@ -2,7 +2,7 @@ use Rattle.std.proofs.Common.{◌≡◌, [], rules}
 use Rattle.std.proofs.lemmas.Fn.{always_returns_same}
 use Rattle.mx_json.specs.declared.value.Json.{Null}
 use Rattle.mx_json.proofs.RisingLemmas.{order_to, place_from_search}
-use Rattle.mx_json.proofs.path.place_among_rising.Goals as goal
+use Rattle.mx_json.proofs.member.place_of.Goals as goal
 
 pub returns : goal.returns
 returns c =
