@@ -6,6 +6,7 @@
 #![tactic(auto)]
 
 mod canonical;
+mod compared;
 mod event_id;
 mod folded;
 mod id;
