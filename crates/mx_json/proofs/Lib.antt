@@ -13,3 +13,4 @@ pub mod ReadingLemmas
 pub mod ValidLemmas
 pub mod Utf8Lemmas
 pub mod RoundTrip
+pub mod ObjectLemmas

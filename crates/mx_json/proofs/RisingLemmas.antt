@@ -27,7 +27,7 @@ order_to key pair = order pair.0 key
 abbrev pub keys_of : List Pair → List (List ℕ)
 keys_of = map (λ pair. pair.0)
 
-keys_of-with_value : {A : Type 0} (f : Json → A) (pairs : List (List ℕ × Json)) → map (λ pair. pair.0) (map (with_value f) pairs) ≡ keys_of pairs
+pub keys_of-with_value : {A : Type 0} (f : Json → A) (pairs : List (List ℕ × Json)) → map (λ pair. pair.0) (map (with_value f) pairs) ≡ keys_of pairs
 keys_of-with_value f [] = refl
 keys_of-with_value f (pair ∷ pairs) = ap (λ keys. pair.0 ∷ keys) (keys_of-with_value f pairs)
 

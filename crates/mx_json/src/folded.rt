@@ -5,10 +5,11 @@ use crate::memory::OutOfMemory;
 use crate::meter::Meter;
 use caseless::default_case_fold_str;
 use std::alloc::{AllocError, Global};
+use std::fmt;
 use std::marker::Model;
 
 /// A text after Unicode full case folding, read one character at a time, each read counted.
-#[derive(Debug, Drop)]
+#[derive(Drop)]
 pub struct Folded {
     characters: Vec<char>,
 }
@@ -20,6 +21,13 @@ impl Model for Folded {
     ghost Value = { List ℕ };
 
     ghost view = { λ f. f.characters.items };
+}
+
+// The length alone: its characters are read by `at`, which counts.
+impl fmt::Debug for Folded {
+    fn fmt<W: fmt::Write>(&self, f: &mut fmt::Formatter<W>) -> fmt::Result {
+        f.debug_struct("Folded").field("len", &self.len()).finish()
+    }
 }
 
 impl Folded {

@@ -3,7 +3,9 @@ ghost use Rattle.mx_json.specs.Folded.{next_count};
 
 use std::marker::Model;
 
-/// Counts reads of characters. A count that has reached the end of a `u64` stays there.
+/// Counts reads of characters of folded texts: each call of `Folded::at` is one, also where it
+/// asks past the end, and nothing else is counted. A count that has reached the end of a `u64`
+/// stays there.
 #[derive(Debug, Drop)]
 pub struct Meter {
     count: u64,

@@ -1,4 +1,4 @@
-ghost use Rattle.std.specs.Prelude.{◌≡◌, ◌↔◌, true, [], length, slice_get, option_map, IfOk, IfSome, IsTrue};
+ghost use Rattle.std.specs.Prelude.{◌≡◌, ◌↔◌, true, [], ◌∷◌, ◌++◌, length, slice_get, option_map, IfOk, IfSome, IsTrue};
 ghost use Rattle.std.specs.Option.{option_copied};
 ghost use Rattle.mx_json.specs.Json.{is_object, is_valid, list_of, text_of, truth_of, whole_of};
 
@@ -151,6 +151,28 @@ impl JsonList {
 }
 
 impl JsonObject {
+    /// An object without members.
+    pub fn new(alloc: Global) -> JsonObject
+        ensures { result.pairs ≡ [] }
+    {
+        JsonObject {
+            pairs: Items::new(alloc),
+        }
+    }
+
+    /// The object with one more member behind the others: in a valid one its key is above theirs.
+    ///
+    /// # Errors
+    ///
+    /// `OutOfMemory` where the allocator has none.
+    pub fn with(self, alloc: Global, key: &str, value: Json) -> Result<JsonObject, OutOfMemory>
+        ensures { IfOk result (λ object. object.pairs ≡ self.pairs ++ (key.now, value) ∷ []) }
+    {
+        let JsonObject { mut pairs } = self;
+        pairs.push((JsonText::read(alloc, key)?, value))?;
+        Ok(JsonObject { pairs })
+    }
+
     /// The key and the value at this place, counted from 0; `None` exactly past the last.
     pub fn pair_at(&self, k: usize) -> Option<(&str, &Json)>
         ensures { option_map (λ pair. (pair.0.now, pair.1.now)) result
