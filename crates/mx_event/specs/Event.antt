@@ -4,7 +4,7 @@ use Rattle.std.specs.Option.{option_map_or}
 use Rattle.std.specs.Str.{bytes_eq}
 use Rattle.mx_json.specs.declared.value.Json.{Json, Null}
 use Rattle.mx_json.specs.Ids.{is_event_id, is_room_id, is_user_id}
-use Rattle.mx_json.specs.Json.{is_object, is_valid, member, text_at, text_of}
+use Rattle.mx_json.specs.Json.{is_object, is_valid, member, text_at, text_of, text_or_empty}
 use Rattle.mx_event.specs.declared.error.EventError.{EventError}
 use Rattle.mx_event.specs.declared.error.EventError.TheVariants.{BadEvent}
 use Rattle.mx_event.specs.declared.error.EventField.{EventField}
@@ -13,10 +13,6 @@ use Rattle.mx_event.specs.declared.relation.Relation.{Relation}
 use Rattle.mx_event.specs.declared.relation.Relation.TheVariants.{Thread, Other, Nothing}
 
 -- ---- the fields
-
--- the text at this member, and the empty one where there is none
-abbrev pub text_or_empty : List ℕ → Json → List ℕ
-text_or_empty key json = unwrap_or (text_at key json) []
 
 abbrev pub event_id_of : Json → List ℕ
 event_id_of json = text_or_empty (codes "event_id") json
@@ -94,8 +90,8 @@ is_event json = is_none (first_wrong_field json)
 abbrev pub read_event : Json → Result Json EventError
 read_event json = option_map_or (λ field. Err (BadEvent field)) (first_wrong_field json) (Ok json)
 
--- what an event holds: it is a valid event, and these are its ids
-pub record IsKept (json : Json) (event_id room_id sender : List ℕ) : Type 0 where
+-- what an `Event` holds: a valid event, and its ids
+pub record HoldsEvent (json : Json) (event_id room_id sender : List ℕ) : Type 0 where
   pub valid : is_valid json ≡ true
   pub event : is_event json ≡ true
   pub event_id_is : event_id ≡ event_id_of json

@@ -5,9 +5,7 @@ ghost use Rattle.mx_json.specs.Json.{is_valid};
 ghost use Rattle.mx_event.specs.Event.{content_of, event_id_of, is_event, kind_of, membership_of, read_event, related_by, relation_of, room_id_of, sender_of, state_key_of, told_membership};
 
 use crate::error::EventError;
-use crate::fields::{
-    event_id_in, first_wrong_after_the_ids, room_id_in, sender_in, text_at, text_or_empty,
-};
+use crate::fields::{event_id_in, first_wrong_after_the_ids, room_id_in, sender_in};
 use crate::relation::{Relation, relation_in};
 use mx_json::{EventId, Json, OutOfMemory, RoomId, UserId};
 use std::alloc::Global;
@@ -32,11 +30,11 @@ impl Model for Event {
 
     ghost coded = { Prim.hlevel (codes, whole.the_row.coded) };
 
-    ghost use Rattle.mx_event.specs.Event.{IsKept};
+    ghost use Rattle.mx_event.specs.Event.{HoldsEvent};
 
     ghost view = { λ event. event.json };
 
-    ghost invariant = { λ event. IsKept event.json event.event_id event.room_id event.sender };
+    ghost invariant = { λ event. HoldsEvent event.json event.event_id event.room_id event.sender };
 }
 
 impl Event {
@@ -89,12 +87,13 @@ impl Event {
     pub fn kind(&self) -> &str
         ensures { result.now ≡ kind_of self.now }
     {
-        text_or_empty(&self.json, "type")
+        self.json.text_or_empty("type")
     }
 
     /// Its content, an object.
     pub fn content(&self) -> &Json
-        ensures { result.now ≡ content_of self.now }
+        ensures content { result.now ≡ content_of self.now }
+        ensures valid { is_valid result.now ≡ true }
     {
         match self.json.member("content") {
             Some(content) => content,
@@ -106,7 +105,7 @@ impl Event {
     pub fn state_key(&self) -> Option<&str>
         ensures { option_copied result ≡ state_key_of self.now }
     {
-        text_at(&self.json, "state_key")
+        self.json.text_at("state_key")
     }
 
     /// The whole object.
@@ -146,7 +145,7 @@ impl Event {
     fn told_membership(&self) -> &str
         ensures { result.now ≡ told_membership self.now }
     {
-        match text_at(self.content(), "membership") {
+        match self.content().text_at("membership") {
             Some(membership) => membership,
             None => "leave",
         }

@@ -1,34 +1,19 @@
-ghost use Rattle.std.specs.Prelude.{◌≡◌};
-ghost use Rattle.std.specs.Option.{option_copied};
+ghost use Rattle.std.specs.Prelude.{◌≡◌, true};
 ghost use Rattle.mx_json.specs.Gives.{Gives};
 ghost use Rattle.mx_json.specs.Ids.{is_event_id, is_room_id, is_user_id};
-ghost use Rattle.mx_json.specs.Json.{text_at};
-ghost use Rattle.mx_event.specs.Event.{checked, event_id_of, fields_after_the_ids, first_wrong, has_content, has_kind, has_state_key_or_none, is_short_text, room_id_of, sender_of, text_or_empty};
+ghost use Rattle.mx_json.specs.Json.{is_valid};
+ghost use Rattle.mx_event.specs.Event.{checked, event_id_of, fields_after_the_ids, first_wrong, has_content, has_kind, has_state_key_or_none, is_short_text, room_id_of, sender_of};
 
 use crate::error::{EventError, EventField};
 use mx_json::{EventId, IdError, Json, RoomId, UserId};
 use std::alloc::Global;
 
-pub fn text_at<'a>(json: &'a Json, key: &str) -> Option<&'a str>
-    ensures { option_copied result ≡ text_at key.now json.now }
-{
-    json.member(key)?.as_text()
-}
-
-pub fn text_or_empty<'a>(json: &'a Json, key: &str) -> &'a str
-    ensures { result.now ≡ text_or_empty key.now json.now }
-{
-    match text_at(json, key) {
-        Some(text) => text,
-        None => "",
-    }
-}
-
 pub fn event_id_in(alloc: Global, json: &Json) -> Result<EventId, EventError>
+    requires { is_valid json.now ≡ true }
     ensures { Gives EventError.OutOfMemory result
         (checked EventField.EventId (is_event_id (event_id_of json.now)) (event_id_of json.now)) }
 {
-    match EventId::read(alloc, text_or_empty(json, "event_id")) {
+    match EventId::read(alloc, json.text_or_empty("event_id")) {
         Ok(id) => Ok(id),
         Err(IdError::BadId) => Err(EventError::BadEvent(EventField::EventId)),
         Err(IdError::OutOfMemory) => Err(EventError::OutOfMemory),
@@ -36,10 +21,11 @@ pub fn event_id_in(alloc: Global, json: &Json) -> Result<EventId, EventError>
 }
 
 pub fn room_id_in(alloc: Global, json: &Json) -> Result<RoomId, EventError>
+    requires { is_valid json.now ≡ true }
     ensures { Gives EventError.OutOfMemory result
         (checked EventField.RoomId (is_room_id (room_id_of json.now)) (room_id_of json.now)) }
 {
-    match RoomId::read(alloc, text_or_empty(json, "room_id")) {
+    match RoomId::read(alloc, json.text_or_empty("room_id")) {
         Ok(id) => Ok(id),
         Err(IdError::BadId) => Err(EventError::BadEvent(EventField::RoomId)),
         Err(IdError::OutOfMemory) => Err(EventError::OutOfMemory),
@@ -47,10 +33,11 @@ pub fn room_id_in(alloc: Global, json: &Json) -> Result<RoomId, EventError>
 }
 
 pub fn sender_in(alloc: Global, json: &Json) -> Result<UserId, EventError>
+    requires { is_valid json.now ≡ true }
     ensures { Gives EventError.OutOfMemory result
         (checked EventField.Sender (is_user_id (sender_of json.now)) (sender_of json.now)) }
 {
-    match UserId::read(alloc, text_or_empty(json, "sender")) {
+    match UserId::read(alloc, json.text_or_empty("sender")) {
         Ok(id) => Ok(id),
         Err(IdError::BadId) => Err(EventError::BadEvent(EventField::Sender)),
         Err(IdError::OutOfMemory) => Err(EventError::OutOfMemory),
@@ -59,6 +46,7 @@ pub fn sender_in(alloc: Global, json: &Json) -> Result<UserId, EventError>
 
 // The first of the fields after the ids that is wrong.
 pub fn first_wrong_after_the_ids(json: &Json) -> Option<EventField>
+    requires { is_valid json.now ≡ true }
     ensures { result ≡ first_wrong (fields_after_the_ids json.now) }
 {
     if !has_kind(json) {
@@ -74,6 +62,7 @@ pub fn first_wrong_after_the_ids(json: &Json) -> Option<EventField>
 }
 
 fn has_kind(json: &Json) -> bool
+    requires { is_valid json.now ≡ true }
     ensures { result ≡ has_kind json.now }
 {
     match json.member("type") {
@@ -83,6 +72,7 @@ fn has_kind(json: &Json) -> bool
 }
 
 fn has_content(json: &Json) -> bool
+    requires { is_valid json.now ≡ true }
     ensures { result ≡ has_content json.now }
 {
     match json.member("content") {
@@ -92,6 +82,7 @@ fn has_content(json: &Json) -> bool
 }
 
 fn has_state_key_or_none(json: &Json) -> bool
+    requires { is_valid json.now ≡ true }
     ensures { result ≡ has_state_key_or_none json.now }
 {
     match json.member("state_key") {

@@ -1,7 +1,7 @@
-ghost use Rattle.std.specs.Prelude.{◌≡◌};
+ghost use Rattle.std.specs.Prelude.{◌≡◌, true};
+ghost use Rattle.mx_json.specs.Json.{is_valid};
 ghost use Rattle.mx_event.specs.Event.{related_by, relation_in};
 
-use crate::fields::text_at;
 use mx_json::{Json, is_event_id};
 
 /// How an event relates to another.
@@ -17,12 +17,13 @@ pub enum Relation<'a> {
 
 // What an `m.relates_to` says.
 pub fn relation_in(relates_to: &Json) -> Relation<'_>
+    requires { is_valid relates_to.now ≡ true }
     ensures { related_by result ≡ relation_in relates_to.now }
 {
-    let Some(kind) = text_at(relates_to, "rel_type") else {
+    let Some(kind) = relates_to.text_at("rel_type") else {
         return Relation::Nothing;
     };
-    let Some(id) = text_at(relates_to, "event_id") else {
+    let Some(id) = relates_to.text_at("event_id") else {
         return Relation::Nothing;
     };
     if kind != "m.thread" {

@@ -1,8 +1,10 @@
 -- An object with rising keys and valid values is valid, where no value is nested too deep.
-use Rattle.std.proofs.Common.{◌≡◌, ℕ, ◌≤◌, nat_le, ℤ, Bool, true, ◌&&◌, List, [], ◌∷◌, map, refl, sym, ap, ◌∙◌, arith, rules}
-use Rattle.std.proofs.lemmas.Bool.{and_from, and_parts, le-leb, leb-true}
+use Rattle.std.proofs.Common.{◌≡◌, ℕ, ◌≤◌, nat_le, nat_lt, ℤ, Bool, true, ◌&&◌, List, [], ◌∷◌, map, refl, sym, ap, ◌∙◌, arith, rules}
+use Rattle.std.proofs.lemmas.Bool.{and_from, and_parts, le-leb, leb-true, ltb-true}
 use Rattle.std.specs.List.{list_all}
-use Rattle.std.specs.Str.{is_utf8}
+use Rattle.std.specs.Str.{is_utf8, IsAscii}
+use Rattle.std.proofs.lemmas.Str.{is_utf8-from_IsUtf8, IsUtf8-from_ascii}
+use Rattle.std.proofs.lemmas.Str.Ascii.{IsAscii-cons, IsAscii-nil}
 use Rattle.mx_json.specs.declared.value.Json.{Json, Null, Truth, Whole, Text, Object, the_lemmas}
 use Rattle.mx_json.specs.declared.value.JsonObject.{JsonObject}
 use Rattle.mx_json.specs.Json.{are_rising, depth_of, is_canonical, is_valid, is_whole, largest}
@@ -54,6 +56,20 @@ is_valid-Object object rising fit =
     let utf8 = has_utf8-Object object ∙ pairs-utf8 object.pairs fit in
     let within = values-within object.pairs fit in
     is_valid_from (Object object) canonical utf8 (omega (arith, depth_of-Object object))
+
+-- ---- ASCII is UTF-8; of literal texts `refl` shows that they are ASCII
+
+abbrev pub is_ascii : List ℕ → Bool
+is_ascii text = list_all (λ byte. nat_lt byte 128) text
+
+IsAscii-from : (text : List ℕ) → is_ascii text ≡ true → IsAscii text
+IsAscii-from [] ascii = IsAscii-nil
+IsAscii-from (byte ∷ text) ascii =
+    let parts = and_parts (nat_lt byte 128) (is_ascii text) ascii in
+    IsAscii-cons byte text (ltb-true _ _ parts.0) (IsAscii-from text parts.1)
+
+pub is_utf8-ascii : (text : List ℕ) → is_ascii text ≡ true → is_utf8 text ≡ true
+is_utf8-ascii text ascii = is_utf8-from_IsUtf8 text (IsUtf8-from_ascii text (IsAscii-from text ascii))
 
 -- ---- pairs that are fit
 

@@ -1,6 +1,6 @@
 use Rattle.std.proofs.Common.{inl, sym, ◌∙◌}
 use Rattle.std.proofs.lemmas.Result.{err_from_is_err_and}
-use Rattle.mx_event.proofs.EventLemmas.{HasIds, IsKept-from, read_event-right, read_event-wrong, tells_event_id, tells_room_id, tells_sender}
+use Rattle.mx_event.proofs.EventLemmas.{HasIds, HoldsEvent-from, read_event-right, read_event-wrong, tells_event_id, tells_room_id, tells_sender}
 use Rattle.mx_event.proofs.event.Event.from_json.Goals as goal
 
 pub returns-in_err-event_id : goal.returns-in_err-event_id
@@ -26,7 +26,7 @@ returns-in-Some c =
 pub invariant_of-result : goal.invariant_of-result
 invariant_of-result c =
     let ids : HasIds c.args.json c.in_ok-event_id.event_id c.in_ok-room_id.room_id c.in_ok-sender.sender = record { event = c.in_ok-event_id.ensures; room = c.in_ok-room_id.ensures; from = c.in_ok-sender.ensures } in
-    IsKept-from c.args.json _ _ _ c.requires ids (sym c.in_default.is ∙ c.first_wrong_after_the_ids.ensures)
+    HoldsEvent-from c.args.json _ _ _ c.requires ids (sym c.in_default.is ∙ c.first_wrong_after_the_ids.ensures)
 
 pub returns : goal.returns
 returns c =
