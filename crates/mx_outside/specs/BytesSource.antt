@@ -10,16 +10,16 @@ pub record Pieces : Type 0 where
 
 -- How many bytes the next piece is to have: a stated 0 counts as 1, and past the last size it is as many as fit.
 abbrev pub wanted : List ℕ → ℕ → ℕ
-wanted [] room = room
-wanted (size ∷ sizes) room = max size 1
+wanted [] capacity = capacity
+wanted (size ∷ sizes) capacity = max size 1
 
 -- How many bytes the next piece has.
 abbrev pub piece_len : Pieces → ℕ → ℕ
-piece_len pieces room = min (wanted pieces.sizes room) (min room (length pieces.left))
+piece_len pieces capacity = min (wanted pieces.sizes capacity) (min capacity (length pieces.left))
 
 -- The next piece was given, and its size was used up; at the end nothing changes, and no call fails.
 abbrev pub GivesPiece : Got → Pieces → Pieces → ℕ → Type 0
-GivesPiece (got.Bytes count) old new room =
-    (count ≡ piece_len old room) × (new ≡ record { left = drop count old.left; sizes = drop 1 old.sizes })
-GivesPiece got.End old new room = (old.left ≡ []) × (new ≡ old)
-GivesPiece got.Failed old new room = ⊥
+GivesPiece (got.Bytes count) old new capacity =
+    (count ≡ piece_len old capacity) × (new ≡ record { left = drop count old.left; sizes = drop 1 old.sizes })
+GivesPiece got.End old new capacity = (old.left ≡ []) × (new ≡ old)
+GivesPiece got.Failed old new capacity = ⊥

@@ -1,6 +1,7 @@
 -- A source or a sink of which some calls fail: ours.
-use Rattle.std.specs.Prelude.{◌≡◌, ℕ, List, Contains, Result, IsErr}
+use Rattle.std.specs.Prelude.{◌≡◌, ℕ, Bool, false, List, [], ◌∷◌, Contains, Result, IsErr}
 use Rattle.mx_outside.specs.Told.{raised, Rose}
+use Rattle.mx_outside.specs.Budget.{Budget, no_budget}
 
 -- What is wrapped, the numbers of the calls that fail, the number of calls so far, and the count of those that failed.
 pub record Wrapped (A : Type 0) : Type 0 where
@@ -8,6 +9,16 @@ pub record Wrapped (A : Type 0) : Type 0 where
   pub failing : List ℕ
   pub calls : ℕ
   pub faults : ℕ
+
+-- Where no call is listed, the budget is that of what is wrapped.
+abbrev pub budget_below : List ℕ → Budget → Budget
+budget_below [] below = below
+budget_below (number ∷ numbers) below = no_budget
+
+-- Where no call is listed, it is known not to fail where what is wrapped is.
+abbrev pub unlisted_and : List ℕ → Bool → Bool
+unlisted_and [] below = below
+unlisted_and (number ∷ numbers) below = false
 
 -- The next call fails.
 abbrev pub FailsNext : {A : Type 0} → Wrapped A → Type 0

@@ -1,4 +1,5 @@
 pub mod Told
+pub mod Budget
 pub mod Outside
 pub mod BytesSource
 pub mod RepeatSource

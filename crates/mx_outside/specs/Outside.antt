@@ -7,9 +7,9 @@ use Rattle.mx_outside.specs.declared.sink.Put.TheVariants as put
 
 -- Bytes that a source gives are at least one, and fit the buffer.
 abbrev pub IsGiven : Got → ℕ → Type 0
-IsGiven (got.Bytes count) room = (0 < count) × (count ≤ room)
-IsGiven got.End room = Unit {0}
-IsGiven got.Failed room = Unit {0}
+IsGiven (got.Bytes count) length = (0 < count) × (count ≤ length)
+IsGiven got.End length = Unit {0}
+IsGiven got.Failed length = Unit {0}
 
 -- The next of the bytes that are left stand at the front of the buffer, and the rest is left.
 abbrev pub GivesBytes : Got → List ℕ → List ℕ → List ℕ → Type 0
@@ -21,6 +21,11 @@ GivesBytes got.Failed into old new = new ≡ old
 abbrev pub IsMoved : Put → ℕ → Type 0
 IsMoved (put.Moved count) length = (0 < count) × (count ≤ length)
 IsMoved put.Failed length = Unit {0}
+
+-- How many bytes a sink took.
+abbrev pub moved_count : Put → ℕ
+moved_count (put.Moved count) = count
+moved_count put.Failed = 0
 
 -- The first bytes of the piece were added to those that were taken.
 abbrev pub Takes : Put → List ℕ → List ℕ → List ℕ → Type 0

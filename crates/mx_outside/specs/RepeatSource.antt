@@ -14,7 +14,7 @@ repeats repeated = replicate repeated.times repeated.byte
 
 -- As many were given as fit; at the end nothing changes, and no call fails.
 abbrev pub GivesRepeats : Got → Repeated → Repeated → ℕ → Type 0
-GivesRepeats (got.Bytes count) old new room =
-    (count ≡ min room old.times) × (new ≡ record { byte = old.byte; times = old.times - count })
-GivesRepeats got.End old new room = (old.times ≡ 0) × (new ≡ old)
-GivesRepeats got.Failed old new room = ⊥
+GivesRepeats (got.Bytes count) old new capacity =
+    (count ≡ min capacity old.times) × (new ≡ record { byte = old.byte; times = old.times - count })
+GivesRepeats got.End old new capacity = (old.times ≡ 0) × (new ≡ old)
+GivesRepeats got.Failed old new capacity = ⊥

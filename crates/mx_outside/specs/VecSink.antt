@@ -1,6 +1,7 @@
 -- A sink that keeps what it took: ours.
-use Rattle.std.specs.Prelude.{◌≡◌, ℕ, ◌+◌, ◌<◌, ◌≤◌, List, [], ◌∷◌, ◌++◌, length}
+use Rattle.std.specs.Prelude.{◌≡◌, ℕ, ◌-◌, ◌≤◌, List, [], ◌∷◌, ◌++◌, length}
 use Rattle.mx_outside.specs.Told.{raised}
+use Rattle.mx_outside.specs.Budget.{Budget}
 use Rattle.mx_outside.specs.declared.sink.Put.{Put}
 use Rattle.mx_outside.specs.declared.sink.Put.TheVariants as put
 
@@ -9,19 +10,22 @@ use Rattle.mx_outside.specs.declared.sink.Put.TheVariants as put
 pub record Kept : Type 0 where
   pub taken : List ℕ
   pub sizes : List ℕ
-  pub byte_room : ℕ
-  pub call_room : ℕ
+  pub byte_capacity : ℕ
+  pub call_capacity : ℕ
   pub faults : ℕ
 
--- There is memory for one more piece of so many bytes.
-pub record HasRoomFor (kept : Kept) (count : ℕ) : Type 0 where
-  pub bytes : length kept.taken + count ≤ kept.byte_room
-  pub calls : length kept.sizes < kept.call_room
+-- What its memory leaves.
+abbrev pub budget_of : Kept → Budget
+budget_of kept =
+    record {
+      bytes = kept.byte_capacity - length kept.taken;
+      calls = kept.call_capacity - length kept.sizes;
+    }
 
 -- The memory that there is stays.
-pub record KeepsRoom (old new : Kept) : Type 0 where
-  pub bytes : old.byte_room ≤ new.byte_room
-  pub calls : old.call_room ≤ new.call_room
+pub record KeepsCapacity (old new : Kept) : Type 0 where
+  pub bytes : old.byte_capacity ≤ new.byte_capacity
+  pub calls : old.call_capacity ≤ new.call_capacity
 
 -- This piece was kept, these sizes of calls, and the count of faults is this.
 pub record Keeps (old new : Kept) (piece calls : List ℕ) (count : ℕ) : Type 0 where

@@ -25,7 +25,7 @@ impl Model for BytesSource {
 }
 
 impl BytesSource {
-    /// A source of `bytes`, whose pieces have `sizes`, each cut to the room and to what is
+    /// A source of `bytes`, whose pieces have `sizes`, each cut to the buffer and to what is
     /// left. A size of 0 counts as 1. Past the last size a piece has as many bytes as fit.
     pub fn new(bytes: Vec<u8>, sizes: Vec<usize>) -> BytesSource
         ensures { result ≡ record { left = bytes.items; sizes = sizes.items } }
@@ -40,13 +40,15 @@ impl BytesSource {
 }
 
 impl Source for BytesSource {
-    ghost use Rattle.std.specs.Prelude.{Some};
+    ghost use Rattle.std.specs.Prelude.{Some, true};
     ghost use Rattle.mx_outside.specs.Outside.{IsGiven, GivesBytes};
     ghost use Rattle.mx_outside.specs.BytesSource.{GivesPiece};
 
     ghost left = { λ s. Some s.left };
 
     ghost faults = { λ _. 0 };
+
+    ghost never_fails = { λ _. true };
 
     fn read(&mut self, into: &mut [u8]) -> Got
         requires { 0 < length into.old }
@@ -70,14 +72,14 @@ impl Source for BytesSource {
 /// How many bytes the next piece is to have, by the size that is stated next, which this uses
 /// up.
 #[tactic(auto, using(crate::proofs::Pieces::next_size_is))]
-fn next_size(sizes: &[usize], pieces: &mut usize, room: usize) -> usize
+fn next_size(sizes: &[usize], pieces: &mut usize, capacity: usize) -> usize
     requires { pieces.old ≤ length sizes.now }
-    ensures wanted { result ≡ wanted (drop pieces.old sizes.now) room }
+    ensures wanted { result ≡ wanted (drop pieces.old sizes.now) capacity }
     ensures used { drop pieces.new sizes.now ≡ drop 1 (drop pieces.old sizes.now) }
     ensures within { pieces.new ≤ length sizes.now }
 {
     if *pieces == sizes.len() {
-        return room;
+        return capacity;
     }
     let size = sizes[*pieces];
     *pieces += 1;

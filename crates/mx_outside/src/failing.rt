@@ -1,4 +1,4 @@
-ghost use Rattle.std.specs.Prelude.{◌≡◌, ◌<◌, ◌≤◌, ◌↔◌, IsTrue, Contains, length, if◌then◌else◌};
+ghost use Rattle.std.specs.Prelude.{◌≡◌, ◌≢◌, ◌<◌, ◌≤◌, ◌↔◌, IsTrue, Contains, length, if◌then◌else◌};
 ghost use Rattle.mx_outside.specs.Told.{raised, Rose};
 
 use crate::sink::{Put, Sink};
@@ -85,20 +85,31 @@ impl<S: Source> Source for FailingSource<S> {
     ghost use Rattle.std.specs.Prelude.{◌+◌};
     ghost use Rattle.mx_outside.specs.Told.{WhereTold, Rose};
     ghost use Rattle.mx_outside.specs.Outside.{IsGiven, GivesBytes};
-    ghost use Rattle.mx_outside.specs.Failing.{FailsNext, FailsHere, CountsCall};
+    ghost use Rattle.mx_outside.specs.Failing.{FailsNext, FailsHere, CountsCall, unlisted_and};
 
     ghost left = { λ s. S.left s.below };
 
     ghost faults = { λ s. s.faults + S.faults s.below };
 
+    ghost never_fails = { λ s. unlisted_and s.failing (S.never_fails s.below) };
+
     /// Fails where the number of the call is listed, and else answers as the source below.
     fn read(&mut self, into: &mut [u8]) -> Got
         requires { 0 < length into.old }
         ensures given { IsGiven result (length into.old) }
-        ensures bytes { WhereTold (S.left self.old.below) (S.left self.new.below) (GivesBytes result into.new) }
-        ensures count { self.old.faults + S.faults self.old.below ≤ self.new.faults + S.faults self.new.below }
+        ensures bytes { WhereTold (S.left self.old.below) (S.left self.new.below)
+            (GivesBytes result into.new) }
+        ensures count { self.old.faults + S.faults self.old.below
+            ≤ self.new.faults + S.faults self.new.below }
         ensures failed { result ≡ Got.Failed
-            → Rose (self.old.faults + S.faults self.old.below) (self.new.faults + S.faults self.new.below) }
+            → Rose (self.old.faults + S.faults self.old.below)
+            (self.new.faults + S.faults self.new.below) }
+        ensures steady { result ≢ Got.Failed
+            → self.new.faults + S.faults self.new.below ≡ self.old.faults + S.faults self.old.below }
+        ensures sure { IsTrue (unlisted_and self.old.failing (S.never_fails self.old.below))
+            → result ≢ Got.Failed }
+        ensures still { IsTrue (unlisted_and self.old.failing (S.never_fails self.old.below))
+            → IsTrue (unlisted_and self.new.failing (S.never_fails self.new.below)) }
 
         // A call that is listed fails here, and any other fails only below.
         ensures counts { CountsCall self.old self.new }
@@ -157,21 +168,35 @@ impl<K> FailingSink<K> {
 impl<K: Sink> Sink for FailingSink<K> {
     ghost use Rattle.std.specs.Prelude.{◌+◌};
     ghost use Rattle.mx_outside.specs.Told.{WhereTold, Rose};
-    ghost use Rattle.mx_outside.specs.Outside.{IsMoved, Takes};
-    ghost use Rattle.mx_outside.specs.Failing.{FailsNext, FailsHere, CountsCall};
+    ghost use Rattle.mx_outside.specs.Budget.{Covers, SpendsAtMost};
+    ghost use Rattle.mx_outside.specs.Outside.{IsMoved, Takes, moved_count};
+    ghost use Rattle.mx_outside.specs.Failing.{FailsNext, FailsHere, CountsCall, budget_below};
 
     ghost taken = { λ s. K.taken s.below };
 
     ghost faults = { λ s. s.faults + K.faults s.below };
 
+    ghost budget = { λ s. budget_below s.failing (K.budget s.below) };
+
     /// Fails where the number of the call is listed, and else answers as the sink below.
     fn write(&mut self, piece: &[u8]) -> Put
         requires { 0 < length piece.now }
         ensures moved { IsMoved result (length piece.now) }
-        ensures bytes { WhereTold (K.taken self.old.below) (K.taken self.new.below) (Takes result piece.now) }
-        ensures count { self.old.faults + K.faults self.old.below ≤ self.new.faults + K.faults self.new.below }
+        ensures bytes { WhereTold (K.taken self.old.below) (K.taken self.new.below)
+            (Takes result piece.now) }
+        ensures count { self.old.faults + K.faults self.old.below
+            ≤ self.new.faults + K.faults self.new.below }
         ensures failed { result ≡ Put.Failed
-            → Rose (self.old.faults + K.faults self.old.below) (self.new.faults + K.faults self.new.below) }
+            → Rose (self.old.faults + K.faults self.old.below)
+            (self.new.faults + K.faults self.new.below) }
+        ensures steady { result ≢ Put.Failed
+            → self.new.faults + K.faults self.new.below ≡ self.old.faults + K.faults self.old.below }
+        ensures within { Covers (budget_below self.old.failing (K.budget self.old.below))
+            (length piece.now)
+            → result ≢ Put.Failed }
+        ensures spends { SpendsAtMost (moved_count result)
+            (budget_below self.old.failing (K.budget self.old.below))
+            (budget_below self.new.failing (K.budget self.new.below)) }
 
         // A call that is listed fails here, and any other fails only below.
         ensures counts { CountsCall self.old self.new }

@@ -31,13 +31,15 @@ impl RepeatSource {
 }
 
 impl Source for RepeatSource {
-    ghost use Rattle.std.specs.Prelude.{Some};
+    ghost use Rattle.std.specs.Prelude.{Some, true};
     ghost use Rattle.mx_outside.specs.Outside.{IsGiven, GivesBytes};
     ghost use Rattle.mx_outside.specs.RepeatSource.{repeats, GivesRepeats};
 
     ghost left = { λ s. Some (repeats s) };
 
     ghost faults = { λ _. 0 };
+
+    ghost never_fails = { λ _. true };
 
     #[tactic(auto, using(crate::proofs::Repeats::next_repeats), unfolding(crate::specs::RepeatSource::repeats))]
     fn read(&mut self, into: &mut [u8]) -> Got

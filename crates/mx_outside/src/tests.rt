@@ -1,3 +1,6 @@
+ghost use Rattle.std.specs.Prelude.{◌≡◌, ◌<◌, IsTrue, length};
+ghost use Rattle.mx_outside.specs.Budget.{Covers};
+
 use super::*;
 use std::alloc::{AllocError, Global};
 use std::test::Fail;
@@ -32,6 +35,24 @@ fn writes<K: Sink>(
         answers.push(sink.write(piece))?;
     }
     Ok(answers)
+}
+
+/// A source that is known not to fail counts no fault, whatever it is.
+fn read_surely<S: Source>(source: &mut S, into: &mut [u8]) -> Got
+    requires { 0 < length into.old }
+    ensures sure { IsTrue (S.never_fails source.old) → S.faults source.new ≡ S.faults source.old }
+    ensures still { IsTrue (S.never_fails source.old) → IsTrue (S.never_fails source.new) }
+{
+    source.read(into)
+}
+
+/// Within its budget a sink counts no fault, whatever it is.
+fn write_within<K: Sink>(sink: &mut K, piece: &[u8]) -> Put
+    requires { 0 < length piece.now }
+    ensures { Covers (K.budget sink.old) (length piece.now)
+        → K.faults sink.new ≡ K.faults sink.old }
+{
+    sink.write(piece)
 }
 
 #[test]
@@ -94,5 +115,16 @@ fn sinks_in_memory_keep_what_they_took(rt: HostRuntime) -> Result<(), Fail> {
         [Put::Moved(2), Put::Failed, Put::Moved(2)].as_slice()
     );
     assert_eq!(rt; failing.below().taken(), b"abef".as_slice());
+    Ok(())
+}
+
+#[test]
+fn what_is_known_not_to_fail_counts_no_fault(rt: HostRuntime) -> Result<(), Fail> {
+    let alloc = rt.alloc();
+    let mut source = FailingSource::new(RepeatSource::new(b'z', 2), Vec::new(alloc));
+    let mut buffer = [0u8; 3];
+    assert_eq!(rt; read_surely(&mut source, &mut buffer), Got::Bytes(2));
+    let mut sink = FailingSink::new(VecSink::new(alloc, 3, 1)?, Vec::new(alloc));
+    assert_eq!(rt; write_within(&mut sink, b"zzz"), Put::Moved(3));
     Ok(())
 }

@@ -1,4 +1,5 @@
 ghost use Rattle.std.specs.Prelude.{◌≡◌, ◌<◌, [], ◌∷◌, length, IfOk, IsOk, MatchResult};
+ghost use Rattle.mx_outside.specs.Budget.{Covers};
 
 use crate::sink::{Put, Sink};
 use mx_json::OutOfMemory;
@@ -22,20 +23,20 @@ impl Model for VecSink {
     ghost view = { λ s. record {
       taken = s.taken.items;
       sizes = s.sizes.items;
-      byte_room = vec_capacity s.taken;
-      call_room = vec_capacity s.sizes;
+      byte_capacity = vec_capacity s.taken;
+      call_capacity = vec_capacity s.sizes;
       faults = s.faults;
     } };
 }
 
 impl VecSink {
-    ghost use Rattle.mx_outside.specs.VecSink.{HasRoomFor, KeepsRoom, Keeps};
+    ghost use Rattle.mx_outside.specs.VecSink.{budget_of, KeepsCapacity, Keeps};
 
-    /// A sink with memory for so many bytes and calls. Calls within this room take no memory
-    /// and never fail.
+    /// A sink with memory for so many bytes and calls. Calls within these take no memory and
+    /// never fail.
     pub fn new(alloc: Global, bytes: usize, calls: usize) -> Result<VecSink, OutOfMemory>
         ensures { IfOk result (λ sink.
-            sink ≡ record { taken = []; sizes = []; byte_room = bytes; call_room = calls; faults = 0 }) }
+            sink ≡ record { taken = []; sizes = []; byte_capacity = bytes; call_capacity = calls; faults = 0 }) }
     {
         Ok(VecSink {
             taken: Vec::with_capacity(alloc, bytes)?,
@@ -59,8 +60,8 @@ impl VecSink {
     }
 
     fn keep(&mut self, piece: &[u8]) -> Result<(), AllocError>
-        ensures room { KeepsRoom self.old self.new }
-        ensures within { HasRoomFor self.old (length piece.now) → IsOk result }
+        ensures capacity { KeepsCapacity self.old self.new }
+        ensures within { Covers (budget_of self.old) (length piece.now) → IsOk result }
         ensures keeps { MatchResult result
             (λ _. Keeps self.old self.new piece.now (length piece.now ∷ []) self.old.faults)
             (λ _. Keeps self.old self.new [] [] self.old.faults) }
@@ -76,17 +77,20 @@ impl Sink for VecSink {
     ghost use Rattle.std.specs.Prelude.{Some, ◌≤◌};
     ghost use Rattle.mx_outside.specs.Told.{WhereTold, Rose};
     ghost use Rattle.mx_outside.specs.Outside.{IsMoved, Takes};
-    ghost use Rattle.mx_outside.specs.VecSink.{HasRoomFor, KeepsRoom, KeepsPiece};
+    ghost use Rattle.mx_outside.specs.VecSink.{budget_of, KeepsCapacity, KeepsPiece};
 
     ghost taken = { λ s. Some s.taken };
 
     ghost faults = { λ s. s.faults };
 
-    /// Past the room it grows, and fails where it finds no memory.
+    ghost budget = { budget_of };
+
+    /// Past its memory it grows, and fails where it finds no memory.
     fn write(&mut self, piece: &[u8]) -> Put
         requires { 0 < length piece.now }
-        ensures room { KeepsRoom self.old self.new }
-        ensures within { HasRoomFor self.old (length piece.now) → result ≡ Put.Moved (length piece.now) }
+        ensures capacity { KeepsCapacity self.old self.new }
+        ensures within { Covers (budget_of self.old) (length piece.now)
+            → result ≡ Put.Moved (length piece.now) }
         ensures keeps { KeepsPiece result piece.now self.old self.new }
         ensures count { self.old.faults ≤ self.new.faults }
     {

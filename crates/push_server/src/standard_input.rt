@@ -19,11 +19,13 @@ impl<R: Read> StandardInput<R> {
 }
 
 impl<R: Read> Source for StandardInput<R> {
-    ghost use Rattle.std.specs.Prelude.{None};
+    ghost use Rattle.std.specs.Prelude.{None, false};
 
     ghost left = { λ _. None };
 
     ghost faults = { λ input. input.faults };
+
+    ghost never_fails = { λ _. false };
 
     fn read(&mut self, into: &mut [u8]) -> Got {
         let got = read_some(&mut self.reader, into);

@@ -20,10 +20,13 @@ impl<W: Write> StandardOutput<W> {
 
 impl<W: Write> Sink for StandardOutput<W> {
     ghost use Rattle.std.specs.Prelude.{None};
+    ghost use Rattle.mx_outside.specs.Budget.{no_budget};
 
     ghost taken = { λ _. None };
 
     ghost faults = { λ output. output.faults };
+
+    ghost budget = { λ _. no_budget };
 
     fn write(&mut self, piece: &[u8]) -> Put {
         let put = write_some(&mut self.writer, piece);
