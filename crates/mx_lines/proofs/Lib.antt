@@ -1,6 +1,11 @@
+pub mod AcknowledgedLemmas
+pub mod AnswerLemmas
 pub mod CallerLemmas
 pub mod CommandLemmas
 pub mod CuttingLemmas
+pub mod LawsLemmas
 pub mod LinesLemmas
+pub mod ListLemmas
 pub mod ReplyLemmas
 pub mod RestingLemmas
+pub mod RunsLemmas

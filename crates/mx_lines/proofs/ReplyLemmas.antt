@@ -1,4 +1,4 @@
--- Replies have no line feed.
+-- Replies have no line feed, and begin as answers.
 use Rattle.std.proofs.Common.{◌≡◌, ℕ, ◌+◌, ◌/◌, ◌%◌, ◌==◌, Bool, true, false, not, ◌&&◌, cond, List, [], ◌∷◌, ◌++◌, codes, Ok, Err, refl, arith, zero, suc}
 use Rattle.std.specs.Fmt.{decimal, digits, digits_onto, digit_glyph}
 use Rattle.std.proofs.lemmas.Bool.Decides.{nat_tests}
@@ -17,8 +17,9 @@ use Rattle.mx_lines.specs.declared.field_name.FieldName.{FieldName}
 use Rattle.mx_lines.specs.declared.field_name.FieldName.TheVariants.{Cmd}
 use Rattle.mx_lines.specs.FieldNames.{name_of}
 use Rattle.mx_lines.specs.Lines.{IsOneLine}
+use Rattle.mx_lines.specs.Runs.{is_answer}
 use Rattle.mx_lines.specs.Replies.{ok_text, line_refusal_text, refusal_text, denied_text, numbers_text, counts_text}
-use Rattle.mx_lines.specs.Verdict.{Verdict, verdict_of, reply_to, reply_by, reply}
+use Rattle.mx_lines.specs.Admission.{Admission, admission_of, reply_to, reply_by, reply}
 use Rattle.mx_lines.proofs.LinesLemmas.{IsOneLine-append}
 
 abbrev is_one_line : List ℕ → Bool
@@ -103,11 +104,46 @@ IsOneLine-reply_to : (h : History) (command : Command) → IsOneLine (reply_to h
 IsOneLine-reply_to h (InputCommand input) = IsOneLine-ok (inputs_of h + 1)
 IsOneLine-reply_to h (CountsCommand user room threads) = IsOneLine-counts threads (counts_of h user room)
 
-IsOneLine-reply_by : (h : History) (verdict : Verdict) → IsOneLine (reply_by h verdict)
+IsOneLine-reply_by : (h : History) (admission : Admission) → IsOneLine (reply_by h admission)
 IsOneLine-reply_by h (Ok command) = IsOneLine-reply_to h command
 IsOneLine-reply_by h (Err denial) = IsOneLine-denied denial
 
 -- a reply is one line
 pub IsOneLine-reply : (server : List ℕ) (h : History) (line : List ℕ) → IsOneLine (reply server h line)
 unfolding reply
-IsOneLine-reply server h line = IsOneLine-reply_by h (verdict_of server h line)
+IsOneLine-reply server h line = IsOneLine-reply_by h (admission_of server h line)
+
+is_answer-line_refusal : (refusal : LineRefusal) → is_answer (line_refusal_text refusal) ≡ true
+is_answer-line_refusal BadLine = refl
+is_answer-line_refusal NotWhole = refl
+is_answer-line_refusal (BadField field) = refl
+is_answer-line_refusal NotBuilt = refl
+
+is_answer-refusal : (refusal : Refusal) → is_answer (refusal_text refusal) ≡ true
+is_answer-refusal NotLocal = refl
+is_answer-refusal (KnownEvent position) = refl
+
+is_answer-denied : (denial : Denial) → is_answer (denied_text denial) ≡ true
+unfolding denied_text
+is_answer-denied TooLong = refl
+is_answer-denied (Line refusal) = is_answer-line_refusal refusal
+is_answer-denied (Input refusal) = is_answer-refusal refusal
+
+is_answer-counts : (threads : Bool) (counts : Counts) → is_answer (counts_text threads counts) ≡ true
+unfolding counts_text
+is_answer-counts true counts = refl
+is_answer-counts false counts = refl
+
+is_answer-to : (h : History) (command : Command) → is_answer (reply_to h command) ≡ true
+unfolding ok_text
+is_answer-to h (InputCommand input) = refl
+is_answer-to h (CountsCommand user room threads) = is_answer-counts threads (counts_of h user room)
+
+is_answer-by : (h : History) (admission : Admission) → is_answer (reply_by h admission) ≡ true
+is_answer-by h (Ok command) = is_answer-to h command
+is_answer-by h (Err denial) = is_answer-denied denial
+
+-- a reply begins as an answer
+pub is_answer-reply : (server : List ℕ) (h : History) (line : List ℕ) → is_answer (reply server h line) ≡ true
+unfolding reply
+is_answer-reply server h line = is_answer-by h (admission_of server h line)

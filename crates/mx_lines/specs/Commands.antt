@@ -22,9 +22,9 @@ use Rattle.mx_lines.specs.declared.command.LineRefusal.{LineRefusal}
 use Rattle.mx_lines.specs.declared.command.LineRefusal.TheVariants.{BadLine, NotWhole as NumberNotWhole, BadField, NotBuilt}
 use Rattle.mx_lines.specs.declared.field_name.FieldName.{FieldName}
 use Rattle.mx_lines.specs.declared.field_name.FieldName.TheVariants.{Cmd, EventEventId, EventRoomId, EventSender, EventKind, EventContent, EventStateKey, User, RoomId, Threads}
-use Rattle.mx_lines.specs.declared.word.Word.{Word}
-use Rattle.mx_lines.specs.declared.word.Word.TheVariants.{Event as EventWord, Counts as CountsWord}
-use Rattle.mx_lines.specs.Words.{word_named}
+use Rattle.mx_lines.specs.declared.command_word.CommandWord.{CommandWord}
+use Rattle.mx_lines.specs.declared.command_word.CommandWord.TheVariants.{Event as EventWord, Counts as CountsWord}
+use Rattle.mx_lines.specs.CommandWords.{word_named}
 
 -- how deep a line may be nested
 abbrev pub deepest_line : ℕ
@@ -92,7 +92,7 @@ counts_row line = record {
 }
 
 -- The table: the row of each command that is built, for a line with its word.
-abbrev pub row_of : Word → Json → Option Row
+abbrev pub row_of : CommandWord → Json → Option Row
 row_of EventWord line = Some (event_row line)
 row_of CountsWord line = Some (counts_row line)
 row_of other line = None
@@ -108,7 +108,7 @@ abbrev pub if_built : Option Row → Result Command LineRefusal
 if_built row = option_map_or command_by row (Err NotBuilt)
 
 -- the word of the line's command
-abbrev pub word_in : Json → Option Word
+abbrev pub word_in : Json → Option CommandWord
 word_in line = option_and_then word_named (text_at (codes "cmd") line)
 
 -- what a value is read as: `cmd` is looked at first

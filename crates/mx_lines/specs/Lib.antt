@@ -1,9 +1,11 @@
-pub mod Buffers
-pub mod Commands
-pub mod Cutting
-pub mod FieldNames
 pub mod Lines
+pub mod CommandWords
+pub mod FieldNames
+pub mod Commands
+pub mod Admission
 pub mod Replies
+pub mod Runs
+pub mod Laws
+pub mod Cutting
+pub mod Buffers
 pub mod Resting
-pub mod Verdict
-pub mod Words

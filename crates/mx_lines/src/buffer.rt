@@ -99,9 +99,9 @@ impl LineBuffer {
 /// Puts more bytes at the end, unless they are then too many for a line.
 fn append_within(bytes: &mut Vec<u8>, more: &[u8]) -> Content
     requires fits { vec_len bytes.old ≤ longest_line }
-    requires room { longest_line ≤ vec_capacity bytes.old }
+    requires capacity { longest_line ≤ vec_capacity bytes.old }
     ensures fits { vec_len bytes.new ≤ longest_line }
-    ensures room { longest_line ≤ vec_capacity bytes.new }
+    ensures capacity { longest_line ≤ vec_capacity bytes.new }
     ensures kept { kept_in result bytes.new.items ≡ kept_of (bytes.old.items ++ more.now) }
 {
     if more.len() > LONGEST_LINE - bytes.len() {

@@ -8,18 +8,18 @@
 
 mod buffer;
 mod command;
+mod command_word;
 mod cut;
 mod cutter;
 mod field_name;
-mod reading;
+mod line;
 mod reply;
 #[cfg(test)]
 mod tests;
-mod word;
 
 pub use command::{Command, Denial, LineError, LineRefusal};
 pub use cut::{Cut, LONGEST_LINE};
 pub use cutter::LineCutter;
 pub use field_name::FieldName;
-pub use reading::read;
+pub use line::read;
 pub use reply::{denied_into, ok_into, reply_into};

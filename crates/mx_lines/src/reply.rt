@@ -4,7 +4,7 @@ ghost use Rattle.mx_records.specs.History.{History};
 ghost use Rattle.mx_records.specs.Snapshot.{snapshot_of};
 ghost use Rattle.mx_lines.specs.Lines.{with_feed};
 ghost use Rattle.mx_lines.specs.Replies.{ok_text, line_refusal_text, refusal_text, denied_text, numbers_text, counts_text};
-ghost use Rattle.mx_lines.specs.Verdict.{reply_to, IsQuestion};
+ghost use Rattle.mx_lines.specs.Admission.{reply_to, IsQuestion};
 
 use crate::command::{Command, Denial, LineRefusal};
 use itoa::Buffer;

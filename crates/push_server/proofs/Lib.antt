@@ -1,9 +1,6 @@
-pub mod LawsLemmas
-pub mod ListLemmas
-pub mod RunsLemmas
+pub mod AdmissionLemmas
+pub mod CommandLineLemmas
 pub mod ServeLemmas
 pub mod SessionLemmas
 pub mod StepLemmas
 pub mod TransferLemmas
-pub mod VerdictLemmas
-pub mod WordsLemmas

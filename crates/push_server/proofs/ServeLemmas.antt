@@ -16,13 +16,14 @@ use Rattle.push_server.specs.declared.halt.Halt.TheVariants as halt
 use Rattle.push_server.specs.declared.status.Status.{Status}
 use Rattle.push_server.specs.declared.status.Status.TheVariants as ending
 use Rattle.push_server.specs.Status.{code_of, status_of}
-use Rattle.push_server.specs.Words.{AreRunWords}
-use Rattle.push_server.specs.Runs.{Run, point_of, point_now, begun, halted}
-use Rattle.push_server.specs.Laws.{WholeLaws}
-use Rattle.push_server.specs.Steps.{Agrees, MayEnd, IsHalted, AnswersUpTo, AnswersPiece, AnswersAll}
+use Rattle.push_server.specs.CommandLine.{AreRunWords}
+use Rattle.mx_lines.specs.Runs.{Run, point_of, point_now, begun, halted}
+use Rattle.mx_lines.specs.Laws.{WholeLaws, Agrees}
+use Rattle.mx_lines.proofs.AcknowledgedLemmas.{acknowledged-lawful}
+use Rattle.push_server.specs.Steps.{MayEnd, IsHalted, AnswersUpTo, AnswersPiece, AnswersAll}
 use Rattle.push_server.specs.Headline.{EndsWell, HasLawfulRun}
-use Rattle.push_server.proofs.LawsLemmas.{IsLawful-whole}
-use Rattle.push_server.proofs.WordsLemmas.{AreRunWords-unique}
+use Rattle.mx_lines.proofs.LawsLemmas.{IsLawful-whole}
+use Rattle.push_server.proofs.CommandLineLemmas.{AreRunWords-unique}
 use Rattle.push_server.proofs.SessionLemmas.{AnswersUpTo-fed, AnswersUpTo-at_end, IsAllAnswered-going}
 
 -- the words give one name
@@ -60,28 +61,28 @@ only_memory ending.InputLimit usage read write limit = absurd (limit refl)
 
 -- so much of the limit is left after the bytes that were taken
 abbrev pub HasTaken : ℕ → ℕ → List ℕ → List ℕ → Type 0
-HasTaken limit room old new = (input : List ℕ) × (old ≡ input ++ new) × (length input + room ≡ limit)
+HasTaken limit budget old new = (input : List ℕ) × (old ≡ input ++ new) × (length input + budget ≡ limit)
 
 pub HasTaken-nothing : (limit : ℕ) (a : Option (List ℕ)) → WhereTold a a (HasTaken limit limit)
 HasTaken-nothing limit None = tt
 HasTaken-nothing limit (Some left) = ([], refl, omega arith)
 
-took_more : (limit room count : ℕ) (into x y z : List ℕ) → count ≤ length into → count ≤ room → HasTaken limit room x y → y ≡ take count into ++ z
-    → HasTaken limit (room - count) x z
-took_more limit room count into x y z within fits had is =
+took_more : (limit budget count : ℕ) (into x y z : List ℕ) → count ≤ length into → count ≤ budget → HasTaken limit budget x y → y ≡ take count into ++ z
+    → HasTaken limit (budget - count) x z
+took_more limit budget count into x y z within fits had is =
     let size = length-take-le count into within in (
       had.0 ++ take count into,
       had.1 ∙ ap (λ (rest : List ℕ). had.0 ++ rest) is ∙ sym (append_assoc had.0 (take count into) z),
       omega (arith, had.2, size, fits, length-append had.0 (take count into)),
     )
 
-pub HasTaken-more : (limit room count : ℕ) (into : List ℕ) (a b c : Option (List ℕ)) → count ≤ length into → count ≤ room
-    → WhereTold a b (HasTaken limit room) → WhereTold b c (GivesBytes (got.Bytes count) into) → WhereTold a c (HasTaken limit (room - count))
-HasTaken-more limit room count into a b c within fits had gives =
-    WhereTold-then _ _ _ a b c had gives (λ x y z p q. took_more limit room count into x y z within fits p q)
+pub HasTaken-more : (limit budget count : ℕ) (into : List ℕ) (a b c : Option (List ℕ)) → count ≤ length into → count ≤ budget
+    → WhereTold a b (HasTaken limit budget) → WhereTold b c (GivesBytes (got.Bytes count) into) → WhereTold a c (HasTaken limit (budget - count))
+HasTaken-more limit budget count into a b c within fits had gives =
+    WhereTold-then _ _ _ a b c had gives (λ x y z p q. took_more limit budget count into x y z within fits p q)
 
-pub limit_reached : (limit room : ℕ) (left : List ℕ) (a b : Option (List ℕ)) → a ≡ Some left → room ≤ 0 → WhereTold a b (HasTaken limit room) → limit ≤ length left
-limit_reached limit room left a b is none had =
+pub limit_reached : (limit budget : ℕ) (left : List ℕ) (a b : Option (List ℕ)) → a ≡ Some left → budget ≤ 0 → WhereTold a b (HasTaken limit budget) → limit ≤ length left
+limit_reached limit budget left a b is none had =
     let t = WhereTold-at _ a b left had is in
     omega (arith, none, t.2.2, ap length t.2.1, length-append t.2.0 t.0)
 
@@ -92,14 +93,14 @@ abbrev pub run_of : Bool → List ℕ → List ℕ → Run
 run_of ended input output = record { input = input; ended = ended; output = output; status = None }
 
 -- the run of a call so far: all that was taken is answered, as far as lines ended
-pub record Running (limit room : ℕ) (server left : List ℕ) (left_now : Option (List ℕ)) (before : List ℕ) (taken_now : Option (List ℕ)) (shown : Snapshot) (held : Held) : Type 0 where
+pub record Running (limit budget : ℕ) (server left : List ℕ) (left_now : Option (List ℕ)) (before : List ℕ) (taken_now : Option (List ℕ)) (shown : Snapshot) (held : Held) : Type 0 where
   pub input : List ℕ
   pub output : List ℕ
   pub rest : List ℕ
   pub left_told : left_now ≡ Some rest
   pub taken_told : taken_now ≡ Some (before ++ output)
   pub front : left ≡ input ++ rest
-  pub count : length input + room ≡ limit
+  pub count : length input + budget ≡ limit
   pub answers : AnswersUpTo input server [] (run_of false input output) shown held
 
 WholeLaws-start : (server : List ℕ) → WholeLaws server [] (run_of false [] [])
@@ -146,7 +147,7 @@ PieceExtends piece old held result new next k l =
     → Writes k l (AnswersPiece server h0 run result new next)
 
 -- the run with the piece, and what the answers to it wrote
-record PieceRun {T : Type 0} (limit room count : ℕ) (server left : List ℕ) (left_now : Option (List ℕ)) (before : List ℕ) (taken_now : Option (List ℕ)) (result : Result T Halt) (new : Snapshot) (next : Held) : Type 0 where
+record PieceRun {T : Type 0} (limit budget count : ℕ) (server left : List ℕ) (left_now : Option (List ℕ)) (before : List ℕ) (taken_now : Option (List ℕ)) (result : Result T Halt) (new : Snapshot) (next : Held) : Type 0 where
   input : List ℕ
   written : List ℕ
   out : List ℕ
@@ -154,14 +155,14 @@ record PieceRun {T : Type 0} (limit room count : ℕ) (server left : List ℕ) (
   left_told : left_now ≡ Some rest
   taken_told : taken_now ≡ Some (before ++ (written ++ out))
   front : left ≡ input ++ rest
-  room_left : length input + (room - count) ≡ limit
+  budget_left : length input + (budget - count) ≡ limit
   answers : AnswersPiece server [] (run_of false input written) result new next out
 
-PieceRun-of : {T : Type 0} (result : Result T Halt) (limit room count : ℕ) (server left before into : List ℕ) (a b k l : Option (List ℕ)) (old new : Snapshot) (held next : Held)
-    → Running limit room server left a before k old held → count ≤ length into → count ≤ room
+PieceRun-of : {T : Type 0} (result : Result T Halt) (limit budget count : ℕ) (server left before into : List ℕ) (a b k l : Option (List ℕ)) (old new : Snapshot) (held next : Held)
+    → Running limit budget server left a before k old held → count ≤ length into → count ≤ budget
     → WhereTold a b (GivesBytes (got.Bytes count) into) → PieceExtends (take count into) old held result new next k l
-    → PieceRun limit room count server left b before l result new next
-PieceRun-of result limit room count server left before into a b k l old new held next running fits within gives extends =
+    → PieceRun limit budget count server left b before l result new next
+PieceRun-of result limit budget count server left before into a b k l old new held next running fits within gives extends =
     let piece = take count into in
     let t = WhereTold-at _ a b running.rest gives running.left_told in
     let up = AnswersUpTo-fed running.input server [] (run_of false running.input running.output) piece old held refl running.answers in
@@ -175,16 +176,16 @@ PieceRun-of result limit room count server left before into a b k l old new held
       left_told = t.1;
       taken_told = w.1 ∙ ap Some (append_assoc before running.output w.0);
       front = running.front ∙ ap (λ (later : List ℕ). running.input ++ later) t.2 ∙ sym (append_assoc running.input piece t.0);
-      room_left = omega (arith, running.count, size, within, length-append running.input piece);
+      budget_left = omega (arith, running.count, size, within, length-append running.input piece);
       answers = w.2;
     }
 
-pub Running-piece : {T : Type 0} (value : T) (limit room count : ℕ) (server left before into : List ℕ) (a b k l : Option (List ℕ)) (old new : Snapshot) (held next : Held)
-    → Running limit room server left a before k old held → count ≤ length into → count ≤ room
+pub Running-piece : {T : Type 0} (value : T) (limit budget count : ℕ) (server left before into : List ℕ) (a b k l : Option (List ℕ)) (old new : Snapshot) (held next : Held)
+    → Running limit budget server left a before k old held → count ≤ length into → count ≤ budget
     → WhereTold a b (GivesBytes (got.Bytes count) into) → PieceExtends (take count into) old held (Ok value) new next k l
-    → Running limit (room - count) server left b before l new next
-Running-piece value limit room count server left before into a b k l old new held next running fits within gives extends =
-    let p = PieceRun-of (Ok value) limit room count server left before into a b k l old new held next running fits within gives extends in
+    → Running limit (budget - count) server left b before l new next
+Running-piece value limit budget count server left before into a b k l old new held next running fits within gives extends =
+    let p = PieceRun-of (Ok value) limit budget count server left before into a b k l old new held next running fits within gives extends in
     record {
       input = p.input;
       output = p.written ++ p.out;
@@ -192,7 +193,7 @@ Running-piece value limit room count server left before into a b k l old new hel
       left_told = p.left_told;
       taken_told = p.taken_told;
       front = p.front;
-      count = p.room_left;
+      count = p.budget_left;
       answers = p.answers;
     }
 
@@ -212,6 +213,7 @@ HasLawfulRun-of limit server left before input output rest ended status b l left
   is_run = record { input = front; ended = none; output = refl; status = refl };
   lawful = may_end (code_of status);
   ends_well = well;
+  acknowledges = acknowledged-lawful server [] (halted (run_of ended input output) (code_of status)) (may_end (code_of status));
 }
 
 not_ended : (rest : List ℕ) → false ≡ true → rest ≡ []
@@ -237,13 +239,13 @@ HasLawfulRun-silent limit server left before a k left_told taken_told =
     (EndsWell-halted halt.OutOfMemory limit server [] [] false (omega arith) (λ e. absurd (false≢true e)) (record { may_end = may_end; halts = begun-start }))
 
 -- where the answering of a piece halted
-pub HasLawfulRun-halted : (T : Type 0) (error : Halt) (limit room count : ℕ) (server left before into : List ℕ) (a b k l : Option (List ℕ)) (old new : Snapshot) (held next : Held)
-    → Running limit room server left a before k old held → count ≤ length into → count ≤ room
+pub HasLawfulRun-halted : (T : Type 0) (error : Halt) (limit budget count : ℕ) (server left before into : List ℕ) (a b k l : Option (List ℕ)) (old new : Snapshot) (held next : Held)
+    → Running limit budget server left a before k old held → count ≤ length into → count ≤ budget
     → WhereTold a b (GivesBytes (got.Bytes count) into) → PieceExtends {T = T} (take count into) old held (Err error) new next k l
     → HasLawfulRun limit server [] left b before l (status_of error)
-HasLawfulRun-halted T error limit room count server left before into a b k l old new held next running fits within gives extends =
-    let p = PieceRun-of {T = T} (Err error) limit room count server left before into a b k l old new held next running fits within gives extends in
-    let below : length p.input ≤ limit = omega (arith, p.room_left) in
+HasLawfulRun-halted T error limit budget count server left before into a b k l old new held next running fits within gives extends =
+    let p = PieceRun-of {T = T} (Err error) limit budget count server left before into a b k l old new held next running fits within gives extends in
+    let below : length p.input ≤ limit = omega (arith, p.budget_left) in
     HasLawfulRun-of limit server left before p.input (p.written ++ p.out) p.rest false (status_of error) b l p.left_told p.taken_told p.front
     (not_ended p.rest) p.answers.may_end
     (EndsWell-halted error limit server p.input (p.written ++ p.out) false below (λ e. absurd (false≢true e)) p.answers)
@@ -272,10 +274,10 @@ EndsWell-last (Err error) limit server input written out below answers =
     EndsWell-halted error limit server input (written ++ out) true (omega arith) (λ e. below) answers
 
 -- where the source ended
-pub HasLawfulRun-last : {T : Type 0} (result : Result T Halt) (limit room : ℕ) (server left before into : List ℕ) (a b k l : Option (List ℕ)) (shown : Snapshot) (held : Held)
-    → 0 < room → Running limit room server left a before k shown held → WhereTold a b (GivesBytes got.End into) → LastExtends shown held result k l
+pub HasLawfulRun-last : {T : Type 0} (result : Result T Halt) (limit budget : ℕ) (server left before into : List ℕ) (a b k l : Option (List ℕ)) (shown : Snapshot) (held : Held)
+    → 0 < budget → Running limit budget server left a before k shown held → WhereTold a b (GivesBytes got.End into) → LastExtends shown held result k l
     → HasLawfulRun limit server [] left b before l (last_status result)
-HasLawfulRun-last result limit room server left before into a b k l shown held some running gives extends =
+HasLawfulRun-last result limit budget server left before into a b k l shown held some running gives extends =
     let t = WhereTold-at _ a b running.rest gives running.left_told in
     let up = AnswersUpTo-at_end running.input server [] (run_of false running.input running.output) shown held refl running.answers in
     let w = extends server [] (run_of true running.input running.output) refl up (before ++ running.output) running.taken_told in
@@ -287,10 +289,10 @@ HasLawfulRun-last result limit room server left before into a b k l shown held s
     (EndsWell-last result limit server running.input running.output w.0 below w.2)
 
 -- where the source failed
-pub HasLawfulRun-failed : (limit room : ℕ) (server left before into : List ℕ) (a b k : Option (List ℕ)) (shown : Snapshot) (held : Held)
-    → 0 < room → held.ended ≡ false → Running limit room server left a before k shown held → WhereTold a b (GivesBytes got.Failed into)
+pub HasLawfulRun-failed : (limit budget : ℕ) (server left before into : List ℕ) (a b k : Option (List ℕ)) (shown : Snapshot) (held : Held)
+    → 0 < budget → held.ended ≡ false → Running limit budget server left a before k shown held → WhereTold a b (GivesBytes got.Failed into)
     → HasLawfulRun limit server [] left b before k ending.ReadFault
-HasLawfulRun-failed limit room server left before into a b k shown held some ready running gives =
+HasLawfulRun-failed limit budget server left before into a b k shown held some ready running gives =
     let t = WhereTold-at _ a b running.rest gives running.left_told in
     let all = IsAllAnswered-going server [] (run_of false running.input running.output) shown held refl ready running.answers in
     let below : length running.input < limit = omega (arith, running.count, some) in
@@ -299,10 +301,10 @@ HasLawfulRun-failed limit room server left before into a b k shown held some rea
     all.may_end (refl, below, all.each)
 
 -- where the limit was reached
-pub HasLawfulRun-limit : (limit room : ℕ) (server left before : List ℕ) (a k : Option (List ℕ)) (shown : Snapshot) (held : Held)
-    → room ≤ 0 → held.ended ≡ false → Running limit room server left a before k shown held
+pub HasLawfulRun-limit : (limit budget : ℕ) (server left before : List ℕ) (a k : Option (List ℕ)) (shown : Snapshot) (held : Held)
+    → budget ≤ 0 → held.ended ≡ false → Running limit budget server left a before k shown held
     → HasLawfulRun limit server [] left a before k ending.InputLimit
-HasLawfulRun-limit limit room server left before a k shown held none ready running =
+HasLawfulRun-limit limit budget server left before a k shown held none ready running =
     let all = IsAllAnswered-going server [] (run_of false running.input running.output) shown held refl ready running.answers in
     let full : length running.input ≡ limit = omega (arith, running.count, none) in
     HasLawfulRun-of limit server left before running.input running.output running.rest false ending.InputLimit a k running.left_told running.taken_told running.front

@@ -14,11 +14,11 @@ use Rattle.mx_lines.proofs.CallerLemmas.{FeedsRest, HasGiven-fed}
 use Rattle.mx_records.specs.History.{History}
 use Rattle.mx_records.specs.Snapshot.{Snapshot}
 use Rattle.push_server.specs.declared.halt.Halt.{Halt}
-use Rattle.push_server.specs.Runs.{Run, Point, last_line, input_lines, told}
+use Rattle.mx_lines.specs.Runs.{Run, Point, last_line, input_lines, told}
 use Rattle.push_server.specs.Steps.{GoesOn, ShowsNext, StepsTo, IsHalted, AnswersUpTo, IsAllAnswered, AnswersAll}
-use Rattle.push_server.proofs.ListLemmas.{slice_get-more, slice_get-seam}
-use Rattle.push_server.proofs.LawsLemmas.{IsLawful-whole}
-use Rattle.push_server.proofs.StepLemmas.{Agrees-more}
+use Rattle.mx_lines.proofs.ListLemmas.{slice_get-more, slice_get-seam}
+use Rattle.mx_lines.proofs.LawsLemmas.{IsLawful-whole}
+use Rattle.mx_lines.proofs.AnswerLemmas.{Agrees-more}
 
 -- ---- the lines of a run and those of the bytes that were cut
 

@@ -1,51 +1,29 @@
 -- Lemmas on one step of a run.
-use Rattle.std.proofs.Common.{◌≡◌, ℕ, ◌+◌, ◌<◌, ◌≤◌, true, List, [], ◌∷◌, ◌++◌, Some, Option, length, take, refl, sym, ap, ◌∙◌, arith, length-append, suc, zero, add-zero}
+use Rattle.std.proofs.Common.{◌≡◌, ℕ, ◌+◌, ◌<◌, ◌≤◌, List, [], ◌∷◌, ◌++◌, Some, Option, length, take, sym, ap, ◌∙◌, arith, length-append, add-zero}
 use Rattle.std.specs.List.{slice_get}
 use Rattle.std.proofs.lemmas.List.{append-nil, take-append-le}
 use Rattle.std.proofs.lemmas.Option.{slice_get_within}
-use Rattle.std.proofs.lemmas.Bool.{false≢true}
 use Rattle.mx_outside.specs.Told.{WhereTold, Writes}
 use Rattle.mx_outside.proofs.Told.{WhereTold-at}
 use Rattle.mx_lines.specs.declared.cut.Cut.{Cut}
 use Rattle.mx_lines.specs.declared.cut.Cut.TheVariants.{Line, TooLong, More}
 use Rattle.mx_lines.specs.Cutting.{shown_count}
-use Rattle.mx_lines.specs.Lines.{lines_of, IsOneLine, with_feed}
+use Rattle.mx_lines.specs.Lines.{IsOneLine, with_feed}
 use Rattle.mx_lines.proofs.LinesLemmas.{IsOneLine-take}
 use Rattle.mx_records.specs.History.{History}
 use Rattle.mx_records.specs.Snapshot.{Snapshot, snapshot_of}
 use Rattle.push_server.specs.declared.halt.Halt.TheVariants as halt
-use Rattle.mx_lines.specs.Verdict.{after, reply, verdict_of}
+use Rattle.mx_lines.specs.Admission.{after, reply, admission_of}
 use Rattle.push_server.specs.Answered.{IsAnswered}
-use Rattle.push_server.specs.Runs.{Run, Point, is_answer, past_line, past_begun, point_at, point_now, input_lines, output_lines, begun, acknowledged, told, IsNext}
-use Rattle.push_server.specs.Laws.{LineLaws}
-use Rattle.push_server.specs.Steps.{Agrees, GoesOn, AnswersCut, ShowsNext, HaltsAt, IsHalted}
-use Rattle.push_server.proofs.RunsLemmas.{Grows, begun-told, begun-part, point_at-grows, point_now-told, point_now-part}
-use Rattle.push_server.proofs.LawsLemmas.{HaveLines-laws, WholeLaws-more, WholeLaws-told, IsLawful-whole, IsLawful-begun}
+use Rattle.mx_lines.specs.Runs.{Run, Point, point_now, input_lines, told, IsNext}
+use Rattle.mx_lines.specs.Laws.{Agrees}
+use Rattle.mx_lines.proofs.AnswerLemmas.{LineLaws-reply, point_now-answer}
+use Rattle.push_server.specs.Headline.{HaltsAt}
+use Rattle.push_server.specs.Steps.{GoesOn, AnswersCut, ShowsNext, IsHalted}
+use Rattle.mx_lines.proofs.RunsLemmas.{begun-told, point_now-part}
+use Rattle.mx_lines.proofs.LawsLemmas.{WholeLaws-told, IsLawful-whole, IsLawful-begun}
 use Rattle.mx_lines.proofs.ReplyLemmas.{IsOneLine-reply}
-use Rattle.push_server.proofs.VerdictLemmas.{is_answer-reply, reply-answered, after-answered}
-
--- the reply to the next line keeps the laws
-pub LineLaws-reply : (server : List ℕ) (h0 : History) (run : Run) (now : History) (line : List ℕ)
-    → Agrees server h0 run now → IsNext server h0 run line
-    → LineLaws server h0 run (length (output_lines run)) (reply server now line)
-LineLaws-reply server h0 run now line agrees next = record {
-  reply_law = λ _. (line, next, λ _. ap (λ (h : History). reply server h line) (sym agrees.history));
-  notice_law = λ notice. absurd (false≢true (sym notice ∙ is_answer-reply server now line));
-}
-
--- past the answer to the next line
-past_line-answer : (server : List ℕ) (inputs : List (List ℕ)) (p : Point) (out line : List ℕ)
-    → is_answer out ≡ true → slice_get inputs p.answered ≡ Some line
-    → past_line server inputs p out ≡ record { history = after server p.history line; answered = p.answered + 1 }
-past_line-answer server inputs p out line answer next = rw (answer, next) refl
-
-point_now-answer : (server : List ℕ) (h0 : History) (run : Run) (now : History) (line : List ℕ)
-    → Agrees server h0 run now → IsNext server h0 run line → IsOneLine (reply server now line)
-    → point_now server h0 (told run (with_feed (reply server now line)))
-    ≡ record { history = after server (point_now server h0 run).history line; answered = (point_now server h0 run).answered + 1 }
-point_now-answer server h0 run now line agrees next one =
-    point_now-told server h0 run (reply server now line) (HaveLines-laws server h0 run agrees.whole) agrees.at_line_end one
-    ∙ past_line-answer server (input_lines run) (point_now server h0 run) (reply server now line) line (is_answer-reply server now line) next
+use Rattle.push_server.proofs.AdmissionLemmas.{reply-answered, after-answered}
 
 -- after the whole answer the run goes on
 GoesOn-answer : (server : List ℕ) (h0 : History) (run : Run) (now : History) (line : List ℕ) (shown : Snapshot)
@@ -110,7 +88,7 @@ record HasAnswer (server : List ℕ) (h0 : History) (run : Run) (now : History) 
 
 HasAnswer-line : (server : List ℕ) (h0 : History) (run : Run) (old new : Snapshot) (answered : ℕ) (before text line : List ℕ)
     → (goes_on : GoesOn server h0 run old answered) → slice_get (input_lines run) answered ≡ Some line → before ≡ []
-    → IsAnswered server goes_on.now (verdict_of server goes_on.now line) new before text
+    → IsAnswered server goes_on.now (admission_of server goes_on.now line) new before text
     → HasAnswer server h0 run goes_on.now new text
 HasAnswer-line server h0 run old new answered before text line goes_on at empty answer =
     let now = goes_on.now in
@@ -199,63 +177,3 @@ wrote_part_of_cut TooLong server h0 run old new answered before text a b goes_on
     (HasAnswer-line server h0 run old new answered before text shows.0 goes_on shows.1 empty (answer shows.0 shows.2)) written
 wrote_part_of_cut More server h0 run old new answered before text a b goes_on shows empty answer written =
     part_of_no_text server h0 run before text a b answer.1 empty written
-
--- at a line's end each answer counts
-pub acknowledged-whole : (server : List ℕ) (h0 : History) (run : Run) (now : History) → Agrees server h0 run now
-    → acknowledged server h0 run ≡ now
-acknowledged-whole server h0 run now agrees =
-    ap (λ (part : List ℕ). (past_begun server (input_lines run) (point_now server h0 run) part).history) agrees.at_line_end
-    ∙ agrees.history
-
-is_answer-take : (out : List ℕ) (k : ℕ) → 0 < k → is_answer out ≡ true → is_answer (take k out) ≡ true
-is_answer-take out zero some answer = absurd (omega arith)
-is_answer-take [] (suc k) some answer = answer
-is_answer-take (b ∷ out) (suc k) some answer = answer
-
-past_begun-answer : (server : List ℕ) (inputs : List (List ℕ)) (p : Point) (part line : List ℕ)
-    → is_answer part ≡ true → slice_get inputs p.answered ≡ Some line
-    → (past_begun server inputs p part).history ≡ after server p.history line
-past_begun-answer server inputs p part line answer next = rw (answer, next) refl
-
-acknowledged-part : (server : List ℕ) (h0 : History) (run : Run) (part line : List ℕ) → begun run ≡ [] → IsOneLine part
-    → is_answer part ≡ true → IsNext server h0 run line
-    → acknowledged server h0 (told run part) ≡ after server (point_now server h0 run).history line
-acknowledged-part server h0 run part line at_end one answer next =
-    ap (λ (b : List ℕ). (past_begun server (input_lines run) (point_now server h0 (told run part)) b).history) (begun-part run part at_end one)
-    ∙ ap (λ (p : Point). (past_begun server (input_lines run) p part).history) (point_now-part server h0 run part one)
-    ∙ past_begun-answer server (input_lines run) (point_now server h0 run) part line answer next
-
--- an answer counts from its first byte on
-pub acknowledged-begun : (server : List ℕ) (h0 : History) (run : Run) (now : History) (line : List ℕ) (count : ℕ)
-    → Agrees server h0 run now → IsNext server h0 run line → IsOneLine (reply server now line)
-    → 0 < count → count ≤ length (reply server now line)
-    → acknowledged server h0 (told run (take count (with_feed (reply server now line)))) ≡ after server now line
-acknowledged-begun server h0 run now line count agrees next one some within =
-    rw (take-append-le count (reply server now line) (10 ∷ []) within)
-    (acknowledged-part server h0 run (take count (reply server now line)) line agrees.at_line_end (IsOneLine-take count (reply server now line) one)
-    (is_answer-take (reply server now line) count some (is_answer-reply server now line)) next
-    ∙ ap (λ (h : History). after server h line) agrees.history)
-
--- more input changes nothing of what was answered
-pub Agrees-more : (server : List ℕ) (h0 : History) (run new : Run) (more : List (List ℕ)) (now : History)
-    → new.output ≡ run.output → input_lines new ≡ input_lines run ++ more → Agrees server h0 run now
-    → Agrees server h0 new now × (point_now server h0 new ≡ point_now server h0 run)
-Agrees-more server h0 run new more now output inputs agrees =
-    let outputs : output_lines new ≡ output_lines run = ap (λ (bytes : List ℕ). (lines_of bytes).whole) output in
-    let grows : Grows run new = record {
-      more_in = more;
-      more_out = [];
-      inputs = inputs;
-      outputs = outputs ∙ sym (append-nil (output_lines run));
-    } in
-    let count : length (output_lines new) ≡ length (output_lines run) = ap length outputs in
-    let point : point_now server h0 new ≡ point_now server h0 run =
-    ap (point_at server h0 new) count
-    ∙ point_at-grows server h0 run new grows (HaveLines-laws server h0 run agrees.whole) (length (output_lines run)) (omega arith) in (
-      record {
-        whole = WholeLaws-more server h0 run new more inputs outputs agrees.whole;
-        at_line_end = ap (λ (bytes : List ℕ). (lines_of bytes).rest) output ∙ agrees.at_line_end;
-        history = ap (λ (p : Point). p.history) point ∙ agrees.history;
-      },
-      point,
-    )

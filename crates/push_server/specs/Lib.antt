@@ -1,8 +1,6 @@
-pub mod Answered
-pub mod Headline
-pub mod Laws
-pub mod Runs
+pub mod CommandLine
 pub mod Status
+pub mod Headline
 pub mod Steps
+pub mod Answered
 pub mod Transfers
-pub mod Words

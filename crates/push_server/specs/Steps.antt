@@ -7,17 +7,11 @@ use Rattle.mx_lines.specs.Cutting.{longest_line, Held, HasGiven}
 use Rattle.mx_records.specs.History.{History}
 use Rattle.mx_records.specs.Snapshot.{Snapshot, snapshot_of}
 use Rattle.push_server.specs.declared.halt.Halt.{Halt}
-use Rattle.push_server.specs.declared.halt.Halt.TheVariants.{OutOfMemory, WriteFault}
-use Rattle.mx_lines.specs.Verdict.{verdict_of}
+use Rattle.mx_lines.specs.Admission.{admission_of}
 use Rattle.push_server.specs.Answered.{IsAnswered}
-use Rattle.push_server.specs.Runs.{Run, input_lines, begun, point_now, told, halted}
-use Rattle.push_server.specs.Laws.{WholeLaws, IsLawful, EachAnswered}
-
--- the run is lawful, stands at a line's end, and has taken the history to `now`
-pub record Agrees (server : List ℕ) (h0 : History) (run : Run) (now : History) : Type 0 where
-  pub whole : WholeLaws server h0 run
-  pub at_line_end : begun run ≡ []
-  pub history : (point_now server h0 run).history ≡ now
+use Rattle.push_server.specs.Headline.{HaltsAt}
+use Rattle.mx_lines.specs.Runs.{Run, input_lines, point_now, told, halted}
+use Rattle.mx_lines.specs.Laws.{Agrees, IsLawful, EachAnswered}
 
 -- after the run the state stands for its history, and so many lines have their answer
 pub record GoesOn (server : List ℕ) (h0 : History) (run : Run) (shown : Snapshot) (answered : ℕ) : Type 0 where
@@ -28,9 +22,9 @@ pub record GoesOn (server : List ℕ) (h0 : History) (run : Run) (shown : Snapsh
 
 -- the line that a cut shows is answered; where it shows none, nothing changes
 abbrev pub AnswersCut : List ℕ → History → Cut → Snapshot → List ℕ → List ℕ → Type 0
-AnswersCut server h (Line bytes) shown before now = IsAnswered server h (verdict_of server h bytes.now) shown before now
+AnswersCut server h (Line bytes) shown before now = IsAnswered server h (admission_of server h bytes.now) shown before now
 AnswersCut server h TooLong shown before now =
-    (line : List ℕ) → longest_line < length line → IsAnswered server h (verdict_of server h line) shown before now
+    (line : List ℕ) → longest_line < length line → IsAnswered server h (admission_of server h line) shown before now
 AnswersCut server h More shown before now = (shown ≡ snapshot_of server h) × (now ≡ before)
 
 -- a line that the cut shows is the one after the first of these lines, so many
@@ -38,12 +32,6 @@ abbrev pub ShowsNext : Cut → List (List ℕ) → ℕ → Type 0
 ShowsNext (Line bytes) lines count = slice_get lines count ≡ Some bytes.now
 ShowsNext TooLong lines count = (line : List ℕ) × (slice_get lines count ≡ Some line) × (longest_line < length line)
 ShowsNext More lines count = Unit {0}
-
--- The run may end where the answering halted so: want of memory cuts no answer short, and a fault leaves a line
--- without its whole answer.
-abbrev pub HaltsAt : Halt → List ℕ → History → Run → Type 0
-HaltsAt OutOfMemory server h0 run = begun run ≡ []
-HaltsAt WriteFault server h0 run = (point_now server h0 run).answered < length (input_lines run)
 
 -- the run may end where it is
 abbrev pub MayEnd : List ℕ → History → Run → Type 0

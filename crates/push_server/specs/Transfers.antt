@@ -8,8 +8,8 @@ abbrev pub WritesText : {T E : Type 0} → Result T E → List ℕ → List ℕ 
 WritesText (Ok value) text old new = new ≡ old ++ text
 WritesText (Err error) text old new = (count : ℕ) × (count < length text) × (new ≡ old ++ take count text)
 
--- no more bytes came than there is room for
-abbrev pub IsWithinRoom : Got → ℕ → Type 0
-IsWithinRoom (Bytes count) room = count ≤ room
-IsWithinRoom End room = Unit {0}
-IsWithinRoom Failed room = Unit {0}
+-- at most so many bytes came
+abbrev pub IsPieceWithin : Got → ℕ → Type 0
+IsPieceWithin (Bytes count) most = count ≤ most
+IsPieceWithin End most = Unit {0}
+IsPieceWithin Failed most = Unit {0}

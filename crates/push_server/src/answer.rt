@@ -2,7 +2,7 @@ ghost use Rattle.std.specs.Prelude.{◌≡◌, ◌≤◌, length, Ok, OnOk};
 ghost use Rattle.mx_records.specs.History.{History};
 ghost use Rattle.mx_records.specs.Snapshot.{snapshot_of};
 ghost use Rattle.mx_lines.specs.Cutting.{longest_line, IsShort};
-ghost use Rattle.mx_lines.specs.Verdict.{verdict_of, verdict_by};
+ghost use Rattle.mx_lines.specs.Admission.{admission_of, admission_by};
 ghost use Rattle.push_server.specs.Answered.{IsAnswered};
 ghost use Rattle.push_server.specs.Steps.{AnswersCut};
 
@@ -40,7 +40,7 @@ fn answer_line(
 ) -> Result<(), OutOfMemory>
     requires { length line.now ≤ longest_line }
     ensures { (server : _) (h : History) → engine.old.shown ≡ snapshot_of server h
-        → OnOk result (IsAnswered server h (verdict_of server h line.now) engine.new.shown out.old.items out.new.items) }
+        → OnOk result (IsAnswered server h (admission_of server h line.now) engine.new.shown out.old.items out.new.items) }
 {
     match read(alloc, line) {
         Ok(command) => follow(alloc, engine, &command, out),
@@ -57,7 +57,7 @@ fn follow(
     out: &mut Vec<u8>,
 ) -> Result<(), OutOfMemory>
     ensures { (server : _) (h : History) → engine.old.shown ≡ snapshot_of server h
-        → OnOk result (IsAnswered server h (verdict_by server h (Ok command.now)) engine.new.shown out.old.items out.new.items) }
+        → OnOk result (IsAnswered server h (admission_by server h (Ok command.now)) engine.new.shown out.old.items out.new.items) }
 {
     match command {
         Command::Input(input) => accept(alloc, engine, input, out),
@@ -79,7 +79,7 @@ fn accept(
     out: &mut Vec<u8>,
 ) -> Result<(), OutOfMemory>
     ensures { (server : _) (h : History) → engine.old.shown ≡ snapshot_of server h
-        → OnOk result (IsAnswered server h (verdict_by server h (Ok (Command.Input input.now))) engine.new.shown out.old.items out.new.items) }
+        → OnOk result (IsAnswered server h (admission_by server h (Ok (Command.Input input.now))) engine.new.shown out.old.items out.new.items) }
 {
     match engine.prepare(alloc, input) {
         Ok(plan) => ok_into(engine.apply(plan), out),

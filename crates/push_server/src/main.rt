@@ -6,7 +6,7 @@
 
 mod answer;
 mod halt;
-mod reading;
+mod pieces;
 mod serve;
 mod session;
 mod standard_input;
@@ -14,7 +14,7 @@ mod standard_output;
 mod status;
 #[cfg(test)]
 mod tests;
-mod words;
+mod command_line;
 mod writing;
 
 use serve::serve;

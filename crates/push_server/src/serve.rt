@@ -1,12 +1,12 @@
 ghost use Rattle.std.specs.Prelude.{◌≡◌, ◌⊎◌, ℕ, ◌≤◌, ◌<◌, ◌^◌, List, [], length, map, string_bytes};
 ghost use Rattle.mx_outside.specs.Told.{Rose};
-ghost use Rattle.push_server.specs.Words.{AreRunWords};
+ghost use Rattle.push_server.specs.CommandLine.{AreRunWords};
 ghost use Rattle.push_server.specs.Headline.{HasLawfulRunOf};
 
-use crate::reading::{piece_buffer, read_piece};
+use crate::pieces::{piece_buffer, read_piece};
 use crate::session::Session;
 use crate::status::Status;
-use crate::words::server_of;
+use crate::command_line::server_of;
 use mx_outside::{Got, Sink, Source};
 use std::alloc::Global;
 
@@ -37,7 +37,7 @@ pub fn serve_within<S: Source, K: Sink>(
     ensures write { result ≡ Status.WriteFault → Rose (K.faults sink.old) (K.faults sink.new) }
     ensures write_count { K.faults sink.old ≤ K.faults sink.new }
 
-    // Without a fault, and with room for the whole input, only memory may be wanting.
+    // Without a fault, and with the whole input below the limit, only memory may be wanting.
     ensures done { (server left : List ℕ) → AreRunWords (map string_bytes words.now) server
         → S.left source.old ≡ Some left → length left < limit
         → (Rose (S.faults source.old) (S.faults source.new) → ⊥) → (Rose (K.faults sink.old) (K.faults sink.new) → ⊥)
@@ -105,14 +105,14 @@ fn serve_lines<S: Source, K: Sink>(
         return Status::OutOfMemory;
     };
     let buffer = pieces.as_mut_slice();
-    let mut room = limit;
-    while room > 0 {
-        match read_piece(source, buffer, room) {
+    let mut left_of_limit = limit;
+    while left_of_limit > 0 {
+        match read_piece(source, buffer, left_of_limit) {
             Got::Bytes(count) => {
                 if let Err(halt) = session.answer_piece(alloc, &buffer[..count], sink) {
                     return halt.status();
                 }
-                room -= count as u64;
+                left_of_limit -= count as u64;
             }
             Got::End => {
                 return match session.finish(alloc, sink) {

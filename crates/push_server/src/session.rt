@@ -3,7 +3,7 @@ ghost use Rattle.mx_lines.specs.Cutting.{nothing_held, IsShort, shown_count};
 ghost use Rattle.mx_outside.specs.Told.{Writes, Rose};
 ghost use Rattle.mx_records.specs.History.{History};
 ghost use Rattle.mx_records.specs.Snapshot.{snapshot_of};
-ghost use Rattle.push_server.specs.Runs.{Run, input_lines};
+ghost use Rattle.mx_lines.specs.Runs.{Run, input_lines};
 ghost use Rattle.push_server.specs.Steps.{GoesOn, ShowsNext, StepsTo, AnswersUpTo, AnswersPiece, AnswersAll};
 
 use crate::answer::answer;

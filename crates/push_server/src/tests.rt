@@ -1,7 +1,7 @@
 mod refusals;
 mod serving;
 
-use crate::words::server_of;
+use crate::command_line::server_of;
 use crate::writing::write_all;
 use mx_outside::VecSink;
 use std::test::Fail;

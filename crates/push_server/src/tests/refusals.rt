@@ -1,6 +1,6 @@
 //! Lines that are refused, each beside the earlier refusals that could hide it, and lines at each bound.
 
-use super::serving::{ROOM, Script, counts, event, message, padded, source_of, words};
+use super::serving::{CAPACITY, Script, counts, event, message, padded, source_of, words};
 use crate::serve::serve;
 use crate::status::Status;
 use mx_json::OutOfMemory;
@@ -114,7 +114,7 @@ impl Script {
 /// Says the lines of a script to the server, and compares all replies.
 fn runs_as_said(alloc: Global, script: &Script) -> Result<bool, OutOfMemory> {
     let mut source = source_of(alloc, &script.input, 0)?;
-    let mut sink = VecSink::new(alloc, ROOM, ROOM)?;
+    let mut sink = VecSink::new(alloc, CAPACITY, CAPACITY)?;
     let status = serve(alloc, &words(alloc)?, &mut source, &mut sink);
     Ok(status == Status::Done && sink.taken() == script.output.as_slice())
 }

@@ -10,8 +10,8 @@ const NO_COMMAND: &str = "= {\"error\":\"BadField\",\"field\":\"cmd\"}";
 
 const TOO_LONG: &str = "= {\"error\":\"LineTooLong\"}";
 
-/// Room of a sink that keeps all output of a test, in bytes and in calls.
-pub(super) const ROOM: usize = 65_536;
+/// The capacity of a sink that keeps all output of a test, in bytes and in calls.
+pub(super) const CAPACITY: usize = 65_536;
 
 pub(super) fn words(alloc: Global) -> Result<Vec<String>, AllocError> {
     let mut words = Vec::new(alloc);
@@ -123,7 +123,7 @@ fn two_join_and_one_message(rt: HostRuntime) -> Result<(), Fail> {
     let script = first_messages(alloc)?;
     for size in [0, 1, 7, 100] {
         let mut source = source_of(alloc, &script.input, size)?;
-        let mut sink = VecSink::new(alloc, ROOM, ROOM)?;
+        let mut sink = VecSink::new(alloc, CAPACITY, CAPACITY)?;
         let status = serve(alloc, &words(alloc)?, &mut source, &mut sink);
         assert_eq!(rt; status, Status::Done, "in pieces of {size}");
         assert_eq!(rt;
@@ -148,7 +148,7 @@ fn an_input_without_bytes_and_a_line_without_its_end(rt: HostRuntime) -> Result<
         ),
     ] {
         let mut source = source_of(alloc, input.as_bytes(), 0)?;
-        let mut sink = VecSink::new(alloc, ROOM, ROOM)?;
+        let mut sink = VecSink::new(alloc, CAPACITY, CAPACITY)?;
         let status = serve(alloc, &words(alloc)?, &mut source, &mut sink);
         assert_eq!(rt; status, Status::Done, "{input}");
         assert_eq!(rt; sink.taken(), output.as_bytes(), "{input}");
@@ -179,7 +179,7 @@ fn long_lines_in_any_pieces(rt: HostRuntime) -> Result<(), Fail> {
     let _ = script.input.pop();
     for size in [1, 65_536, 131_073] {
         let mut source = source_of(alloc, &script.input, size)?;
-        let mut sink = VecSink::new(alloc, ROOM, ROOM)?;
+        let mut sink = VecSink::new(alloc, CAPACITY, CAPACITY)?;
         let status = serve(alloc, &words(alloc)?, &mut source, &mut sink);
         assert_eq!(rt; status, Status::Done, "in pieces of {size}");
         assert_eq!(rt;
@@ -200,7 +200,7 @@ fn a_read_fault_at_each_call(rt: HostRuntime) -> Result<(), Fail> {
     for call in 1..=10 {
         let bytes = source_of(alloc, &script.input, 100)?;
         let mut source = FailingSource::new(bytes, [call as u64].to_vec(alloc)?);
-        let mut sink = VecSink::new(alloc, ROOM, ROOM)?;
+        let mut sink = VecSink::new(alloc, CAPACITY, CAPACITY)?;
         let status = serve(alloc, &words(alloc)?, &mut source, &mut sink);
         assert_eq!(rt; status, Status::ReadFault, "at call {call}");
         assert_eq!(rt;
@@ -227,7 +227,7 @@ fn the_input_limit_set_low(rt: HostRuntime) -> Result<(), Fail> {
         (usize::MAX, Status::Done),
     ] {
         let mut source = source_of(alloc, &script.input, 100)?;
-        let mut sink = VecSink::new(alloc, ROOM, ROOM)?;
+        let mut sink = VecSink::new(alloc, CAPACITY, CAPACITY)?;
         let status = serve_within(alloc, &words(alloc)?, limit as u64, &mut source, &mut sink);
         assert_eq!(rt; status, ending, "at the limit {limit}");
         assert_eq!(rt;
@@ -244,7 +244,7 @@ fn the_input_limit_set_low(rt: HostRuntime) -> Result<(), Fail> {
 fn an_input_without_end_is_stopped_at_the_limit(rt: HostRuntime) -> Result<(), Fail> {
     let alloc = rt.alloc();
     let mut source = RepeatSource::new(b'x', 1 << 30);
-    let mut sink = VecSink::new(alloc, ROOM, ROOM)?;
+    let mut sink = VecSink::new(alloc, CAPACITY, CAPACITY)?;
     let status = serve(alloc, &words(alloc)?, &mut source, &mut sink);
     assert_eq!(rt; status, Status::InputLimit);
     assert!(rt; sink.taken().is_empty());
@@ -277,7 +277,7 @@ fn a_write_fault_in_mid_line(rt: HostRuntime) -> Result<(), Fail> {
     let script = first_messages(alloc)?;
     for call in 1..40 {
         let mut source = source_of(alloc, &script.input, 0)?;
-        let kept = VecSink::new(alloc, ROOM, ROOM)?;
+        let kept = VecSink::new(alloc, CAPACITY, CAPACITY)?;
         let mut sink = Narrow {
             below: FailingSink::new(kept, [call].to_vec(alloc)?),
         };

@@ -1,4 +1,4 @@
-use Rattle.push_server.proofs.VerdictLemmas.{answered_too_long}
+use Rattle.push_server.proofs.AdmissionLemmas.{answered_too_long}
 use Rattle.push_server.proofs.answer.answer.Goals as goal
 
 pub returns-in-TooLong : goal.returns-in-TooLong

@@ -12,8 +12,8 @@ pub returns-in_default-piece_buffer-clause-lawful : goal.returns-in_default-piec
 returns-in_default-piece_buffer-clause-lawful g c left left_told before taken_told =
     HasLawfulRun-silent c.args.limit c.args.server.now left before _ _ left_told taken_told
 
-pub loop-room-init : goal.loop-room-init
-loop-room-init g c = record {
+pub loop-left_of_limit-init : goal.loop-left_of_limit-init
+loop-left_of_limit-init g c = record {
   some = omega (arith, c.in-Ok-piece_buffer.ensures, c.as_mut_slice-buffer.ensures.len);
   ready = ap (λ (held : Held). held.ended) c.in-Ok.ensures.lines;
   taken = HasTaken-nothing c.args.limit _;
@@ -26,40 +26,40 @@ loop-room-init g c = record {
 pub returns-in-Err-clause-lawful : goal.returns-in-Err-clause-lawful
 returns-in-Err-clause-lawful g c left left_told before taken_told =
     rw c.status.ensures
-    (HasLawfulRun-halted (Unit {0}) c.in-Err.halt c.args.limit c.loop-room.room c.in-Bytes.count c.args.server.now left before c.read_piece.new.buffer _ _ _ _ _ c.answer_piece.new.self.engine.shown _ c.answer_piece.new.self.lines
-    (c.loop-room.invariant.running left left_told before taken_told) c.in-Bytes.ensures.given.1 c.in-Bytes.ensures.within c.in-Bytes.ensures.bytes c.in-Err.ensures.extends)
+    (HasLawfulRun-halted (Unit {0}) c.in-Err.halt c.args.limit c.loop-left_of_limit.left_of_limit c.in-Bytes.count c.args.server.now left before c.read_piece.new.buffer _ _ _ _ _ c.answer_piece.new.self.engine.shown _ c.answer_piece.new.self.lines
+    (c.loop-left_of_limit.invariant.running left left_told before taken_told) c.in-Bytes.ensures.given.1 c.in-Bytes.ensures.within c.in-Bytes.ensures.bytes c.in-Err.ensures.extends)
 
-pub loop-room-preserved : goal.loop-room-preserved
-loop-room-preserved g c =
+pub loop-left_of_limit-preserved : goal.loop-left_of_limit-preserved
+loop-left_of_limit-preserved g c =
     record {
-      some = omega (arith, c.loop-room.invariant.some);
+      some = omega (arith, c.loop-left_of_limit.invariant.some);
       ready = c.in_default-answer_piece.ensures.ready;
-      taken = HasTaken-more c.args.limit c.loop-room.room c.in-Bytes.count c.read_piece.new.buffer _ _ _ c.in-Bytes.ensures.given.1 c.in-Bytes.ensures.within c.loop-room.invariant.taken c.in-Bytes.ensures.bytes;
+      taken = HasTaken-more c.args.limit c.loop-left_of_limit.left_of_limit c.in-Bytes.count c.read_piece.new.buffer _ _ _ c.in-Bytes.ensures.given.1 c.in-Bytes.ensures.within c.loop-left_of_limit.invariant.taken c.in-Bytes.ensures.bytes;
       running = λ left left_told before taken_told.
-          Running-piece c.in_default-answer_piece.field-0 c.args.limit c.loop-room.room c.in-Bytes.count c.args.server.now left before c.read_piece.new.buffer _ _ _ _ _ _ _ _
-          (c.loop-room.invariant.running left left_told before taken_told) c.in-Bytes.ensures.given.1 c.in-Bytes.ensures.within c.in-Bytes.ensures.bytes c.in_default-answer_piece.ensures.extends;
+          Running-piece c.in_default-answer_piece.field-0 c.args.limit c.loop-left_of_limit.left_of_limit c.in-Bytes.count c.args.server.now left before c.read_piece.new.buffer _ _ _ _ _ _ _ _
+          (c.loop-left_of_limit.invariant.running left left_told before taken_told) c.in-Bytes.ensures.given.1 c.in-Bytes.ensures.within c.in-Bytes.ensures.bytes c.in_default-answer_piece.ensures.extends;
       read_count = omega arith;
       write_count = omega arith;
     }
 
 pub returns-in-End-clause-lawful : goal.returns-in-End-clause-lawful
 returns-in-End-clause-lawful g c left left_told before taken_told =
-    let running = c.loop-room.invariant.running left left_told before taken_told in
+    let running = c.loop-left_of_limit.invariant.running left left_told before taken_told in
     elim c.match-finish.branch [
       | in-Ok-finish w ↦
           rw w.result-is
-          (HasLawfulRun-last (Ok w.in-Ok-finish.field-0) c.args.limit c.loop-room.room c.args.server.now left before c.read_piece.new.buffer _ _ _ _ _ _ c.loop-room-test.true running c.in-End.ensures.bytes w.in-Ok-finish.ensures.extends)
+          (HasLawfulRun-last (Ok w.in-Ok-finish.field-0) c.args.limit c.loop-left_of_limit.left_of_limit c.args.server.now left before c.read_piece.new.buffer _ _ _ _ _ _ c.loop-left_of_limit-test.true running c.in-End.ensures.bytes w.in-Ok-finish.ensures.extends)
       | in-Err-finish w ↦
           rw (w.result-is, w.status-in-Err-finish.ensures)
-          (HasLawfulRun-last {T = Unit {0}} (Err w.in-Err-finish.halt) c.args.limit c.loop-room.room c.args.server.now left before c.read_piece.new.buffer _ _ _ _ _ _ c.loop-room-test.true running c.in-End.ensures.bytes w.in-Err-finish.ensures.extends)
+          (HasLawfulRun-last {T = Unit {0}} (Err w.in-Err-finish.halt) c.args.limit c.loop-left_of_limit.left_of_limit c.args.server.now left before c.read_piece.new.buffer _ _ _ _ _ _ c.loop-left_of_limit-test.true running c.in-End.ensures.bytes w.in-Err-finish.ensures.extends)
     ]
 
 pub returns-in-Failed-clause-lawful : goal.returns-in-Failed-clause-lawful
 returns-in-Failed-clause-lawful g c left left_told before taken_told =
-    HasLawfulRun-failed c.args.limit c.loop-room.room c.args.server.now left before c.read_piece.new.buffer _ _ _ _ _ c.loop-room-test.true c.loop-room.invariant.ready
-    (c.loop-room.invariant.running left left_told before taken_told) c.in-Failed.ensures.bytes
+    HasLawfulRun-failed c.args.limit c.loop-left_of_limit.left_of_limit c.args.server.now left before c.read_piece.new.buffer _ _ _ _ _ c.loop-left_of_limit-test.true c.loop-left_of_limit.invariant.ready
+    (c.loop-left_of_limit.invariant.running left left_told before taken_told) c.in-Failed.ensures.bytes
 
 pub returns-clause-lawful : goal.returns-clause-lawful
 returns-clause-lawful g c left left_told before taken_told =
-    HasLawfulRun-limit c.args.limit c.loop-room.room c.args.server.now left before _ _ _ _ c.loop-room-test.false c.loop-room.invariant.ready
-    (c.loop-room.invariant.running left left_told before taken_told)
+    HasLawfulRun-limit c.args.limit c.loop-left_of_limit.left_of_limit c.args.server.now left before _ _ _ _ c.loop-left_of_limit-test.false c.loop-left_of_limit.invariant.ready
+    (c.loop-left_of_limit.invariant.running left left_told before taken_told)

@@ -4,13 +4,13 @@ use Rattle.std.specs.List.{slice_get}
 use Rattle.std.proofs.lemmas.Option.{slice_get_within}
 use Rattle.std.proofs.lemmas.List.{append-nil, take-append-drop, take-append-le}
 use Rattle.mx_records.specs.History.{History}
-use Rattle.mx_lines.specs.Verdict.{reply}
+use Rattle.mx_lines.specs.Admission.{reply}
 use Rattle.mx_lines.specs.Lines.{IsOneLine, with_feed}
-use Rattle.push_server.specs.Runs.{Run, Point, is_answer, point_at, input_lines, output_lines, begun, told, halted}
-use Rattle.push_server.specs.Laws.{IsTurn, LineLaws, WholeLaws, IsLawful}
-use Rattle.push_server.proofs.ListLemmas.{slice_get-more, slice_get-push_cases}
+use Rattle.mx_lines.specs.Runs.{Run, Point, is_answer, point_at, input_lines, output_lines, begun, told, halted}
+use Rattle.mx_lines.specs.Laws.{IsTurn, LineLaws, WholeLaws, IsLawful}
+use Rattle.mx_lines.proofs.ListLemmas.{slice_get-more, slice_get-push_cases}
 use Rattle.mx_lines.proofs.LinesLemmas.{IsOneLine-take}
-use Rattle.push_server.proofs.RunsLemmas.{HaveLines, Grows, Grows-told, Grows-part, point_at-grows, output_lines-told, output_lines-part, begun-part}
+use Rattle.mx_lines.proofs.RunsLemmas.{HaveLines, Grows, Grows-told, Grows-part, point_at-grows, output_lines-told, output_lines-part, begun-part}
 
 -- each answer of a run that keeps the laws has its line
 pub HaveLines-laws : (server : List ℕ) (h0 : History) (run : Run) → WholeLaws server h0 run

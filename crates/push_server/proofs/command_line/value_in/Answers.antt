@@ -1,7 +1,7 @@
 use Rattle.std.proofs.Common.{arith, sym, ap, ◌++◌, ◌∙◌}
 use Rattle.std.proofs.lemmas.Str.Pattern.{strip_prefix_char}
-use Rattle.push_server.proofs.WordsLemmas.{value_behind}
-use Rattle.push_server.proofs.words.value_in.Goals as goal
+use Rattle.push_server.proofs.CommandLineLemmas.{value_behind}
+use Rattle.push_server.proofs.command_line.value_in.Goals as goal
 
 pub returns : goal.returns
 returns c =

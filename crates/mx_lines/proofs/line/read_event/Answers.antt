@@ -1,5 +1,5 @@
 use Rattle.mx_lines.proofs.CommandLemmas.{command_by-right, command_by-wrong}
-use Rattle.mx_lines.proofs.reading.read_event.Goals as goal
+use Rattle.mx_lines.proofs.line.read_event.Goals as goal
 
 pub returns-in-Ok : goal.returns-in-Ok
 returns-in-Ok c = command_by-right c.args.line c.take_event.result c.in-Ok.event c.take_event.ensures.value c.in-Ok.ensures

@@ -4,8 +4,8 @@ use Rattle.std.specs.List.{slice_get}
 use Rattle.std.proofs.lemmas.List.{length_push, append-nil}
 use Rattle.mx_records.specs.History.{History}
 use Rattle.mx_lines.specs.Lines.{Lines, IsOneLine, with_feed}
-use Rattle.push_server.specs.Runs.{Run, Point, is_answer, past, past_line, past_answer, past_notice, point_of, point_at, point_now, input_lines, output_lines, begun, told}
-use Rattle.push_server.proofs.ListLemmas.{slice_get-more, slice_get-left, slice_get-seam}
+use Rattle.mx_lines.specs.Runs.{Run, Point, is_answer, past, past_line, past_answer, past_notice, point_of, point_at, point_now, input_lines, output_lines, begun, told}
+use Rattle.mx_lines.proofs.ListLemmas.{slice_get-more, slice_get-left, slice_get-seam}
 use Rattle.mx_lines.proofs.LinesLemmas.{lines_of-part, lines_of-line}
 
 -- an answer has an input line to answer

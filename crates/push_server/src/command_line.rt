@@ -1,5 +1,5 @@
 ghost use Rattle.std.specs.Prelude.{◌≡◌, ◌≢◌, ◌↔◌, ◌++◌, ℕ, List, codes, IsTrue, IfSome, IsNone, MatchOption, map, string_bytes};
-ghost use Rattle.push_server.specs.Words.{is_value, is_name_byte, IsServerName, BeginWith, AreEnded, AreRunWords};
+ghost use Rattle.push_server.specs.CommandLine.{is_value, is_name_byte, IsServerName, BeginWith, AreEnded, AreRunWords};
 
 /// The most bytes of a server's name.
 const LONGEST_NAME: usize = 200;

@@ -1,11 +1,11 @@
 -- The words of the commands: ours.
 use Rattle.std.specs.Prelude.{ℕ, List, Option, Some, None, codes, if◌then◌else◌}
 use Rattle.std.specs.Str.{bytes_eq}
-use Rattle.mx_lines.specs.declared.word.Word.{Word}
-use Rattle.mx_lines.specs.declared.word.Word.TheVariants.{Event, RulePut, RuleDelete, RuleEnable, RuleActions, Receipt, Pusher, Counts, Rules, Pushers, Turn, Stat, Checkpoint}
+use Rattle.mx_lines.specs.declared.command_word.CommandWord.{CommandWord}
+use Rattle.mx_lines.specs.declared.command_word.CommandWord.TheVariants.{Event, RulePut, RuleDelete, RuleEnable, RuleActions, Receipt, Pusher, Counts, Rules, Pushers, Turn, Stat, Checkpoint}
 
 -- the word that a text spells, if it is one of the thirteen
-unfoldable pub word_named : List ℕ → Option Word
+unfoldable pub word_named : List ℕ → Option CommandWord
 word_named text =
     if bytes_eq text (codes "event") then Some Event
     else (if bytes_eq text (codes "rule_put") then Some RulePut

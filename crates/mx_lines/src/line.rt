@@ -5,8 +5,8 @@ ghost use Rattle.mx_lines.specs.Cutting.{longest_line};
 ghost use Rattle.mx_lines.specs.Commands.{command_of, command_in, command_by, event_row, counts_row, event_in, name_in_line, word_in, has_threads_or_none, threads_in, ReadsAs};
 
 use crate::command::{Command, LineError, LineRefusal};
+use crate::command_word::{CommandWord, word_named};
 use crate::field_name::FieldName;
-use crate::word::{Word, word_named};
 use mx_event::{Event, EventError, EventField};
 use mx_json::{IdError, Json, JsonError, RoomId, UserId};
 use mx_records::Input;
@@ -47,15 +47,15 @@ fn read_command(alloc: Global, line: Json) -> Result<Command, LineError>
     ensures { ReadsAs (command_in line) result }
 {
     match read_word(&line) {
-        Some(Word::Event) => read_event(alloc, line),
-        Some(Word::Counts) => read_counts(alloc, &line),
+        Some(CommandWord::Event) => read_event(alloc, line),
+        Some(CommandWord::Counts) => read_counts(alloc, &line),
         Some(_) => Err(LineError::Refused(LineRefusal::NotBuilt)),
         None => Err(bad_field(FieldName::Cmd)),
     }
 }
 
 /// The word of the line's command.
-fn read_word(line: &Json) -> Option<Word>
+fn read_word(line: &Json) -> Option<CommandWord>
     ensures { result ≡ word_in line.now }
 {
     word_named(line.member("cmd")?.as_text()?)

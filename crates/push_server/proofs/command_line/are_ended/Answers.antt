@@ -1,6 +1,6 @@
 use Rattle.std.proofs.Common.{string_bytes}
-use Rattle.push_server.proofs.WordsLemmas.{ends_by_one}
-use Rattle.push_server.proofs.words.are_ended.Goals as goal
+use Rattle.push_server.proofs.CommandLineLemmas.{ends_by_one}
+use Rattle.push_server.proofs.command_line.are_ended.Goals as goal
 
 pub returns-then-is_empty : goal.returns-then-is_empty
 returns-then-is_empty c =

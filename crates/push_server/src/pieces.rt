@@ -1,7 +1,7 @@
 ghost use Rattle.std.specs.Prelude.{◌≡◌, ℕ, ◌≤◌, ◌<◌, length, vec_len, IfOk};
 ghost use Rattle.mx_outside.specs.Outside.{IsGiven, GivesBytes};
 ghost use Rattle.mx_outside.specs.Told.{WhereTold, Rose};
-ghost use Rattle.push_server.specs.Transfers.{IsWithinRoom};
+ghost use Rattle.push_server.specs.Transfers.{IsPieceWithin};
 
 use mx_json::OutOfMemory;
 use mx_outside::{Got, Source};
@@ -17,16 +17,16 @@ pub fn piece_buffer(alloc: Global) -> Result<Vec<u8>, OutOfMemory>
     Ok(Vec::from_elem(alloc, 0, PIECE)?)
 }
 
-/// Reads the next piece of the input, of `room` bytes at the most.
-pub fn read_piece<S: Source>(source: &mut S, buffer: &mut [u8], room: u64) -> Got
+/// Reads the next piece of the input, of as many bytes as are left of the limit at the most.
+pub fn read_piece<S: Source>(source: &mut S, buffer: &mut [u8], left_of_limit: u64) -> Got
     requires some { 0 < length buffer.old }
-    requires room { 0 < room }
+    requires below { 0 < left_of_limit }
     ensures given { IsGiven result (length buffer.new) }
-    ensures within { IsWithinRoom result room }
+    ensures within { IsPieceWithin result left_of_limit }
     ensures bytes { WhereTold (S.left source.old) (S.left source.new) (GivesBytes result buffer.new) }
     ensures count { S.faults source.old ≤ S.faults source.new }
     ensures fault { result ≡ Got.Failed → Rose (S.faults source.old) (S.faults source.new) }
 {
-    let most = room.min(buffer.len() as u64) as usize;
+    let most = left_of_limit.min(buffer.len() as u64) as usize;
     source.read(&mut buffer[..most])
 }

@@ -1,8 +1,8 @@
 -- A run of the server as plain data, and how far its output has taken the history: ours.
-use Rattle.std.specs.Prelude.{◌≡◌, ℕ, zero, suc, ◌+◌, Bool, true, false, ◌==◌, List, [], ◌∷◌, ◌++◌, length, Option, None, Some, slice_get, if◌then◌else◌}
+use Rattle.std.specs.Prelude.{◌≡◌, ℕ, zero, suc, ◌+◌, Bool, true, false, ◌==◌, List, [], ◌∷◌, ◌++◌, length, count_by, Option, None, Some, slice_get, if◌then◌else◌}
 use Rattle.mx_lines.specs.Lines.{lines_of}
 use Rattle.mx_records.specs.History.{History}
-use Rattle.mx_lines.specs.Verdict.{after}
+use Rattle.mx_lines.specs.Admission.{after}
 
 -- one run, from its call on
 pub record Run : Type 0 where
@@ -91,6 +91,15 @@ past_begun server inputs p out = if is_answer out then past_line server inputs p
 -- the acknowledged history
 abbrev pub acknowledged : List ℕ → History → Run → History
 acknowledged server h0 run = (past_begun server (input_lines run) (point_now server h0 run) (begun run)).history
+
+-- how many answers were begun
+abbrev pub answers_begun : Run → ℕ
+answers_begun run = count_by is_answer (lines_until true run.output)
+
+-- the history after each of these lines is answered, one behind another
+abbrev pub after_lines : List ℕ → History → List (List ℕ) → History
+after_lines server h [] = h
+after_lines server h (line ∷ lines) = after_lines server (after server h line) lines
 
 -- this is the next line without an answer
 abbrev pub IsNext : List ℕ → History → Run → List ℕ → Type 0

@@ -1,6 +1,6 @@
 use Rattle.std.proofs.Common.{codes, string_bytes}
-use Rattle.push_server.proofs.WordsLemmas.{begin_after}
-use Rattle.push_server.proofs.words.server_of.Goals as goal
+use Rattle.push_server.proofs.CommandLineLemmas.{begin_after}
+use Rattle.push_server.proofs.command_line.server_of.Goals as goal
 
 pub returns-in_err-server-clause-none : goal.returns-in_err-server-clause-none
 returns-in_err-server-clause-none c none server words =

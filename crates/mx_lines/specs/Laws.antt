@@ -1,8 +1,8 @@
 -- The laws that each output line of a run keeps, and lawful runs: ours.
 use Rattle.std.specs.Prelude.{◌≡◌, ℕ, true, false, ◌⊎◌, List, [], ◌++◌, length, Some, slice_get}
 use Rattle.mx_records.specs.History.{History}
-use Rattle.mx_lines.specs.Verdict.{reply}
-use Rattle.push_server.specs.Runs.{Run, point_at, point_now, input_lines, output_lines, begun, is_answer}
+use Rattle.mx_lines.specs.Admission.{reply}
+use Rattle.mx_lines.specs.Runs.{Run, point_at, point_now, input_lines, output_lines, begun, is_answer}
 
 -- this line is a turn that the server accepts, which none is while there are no turns
 unfoldable pub IsTurn : List ℕ → History → List ℕ → Type 0
@@ -43,6 +43,12 @@ BegunLaws server h0 run =
 pub record IsLawful (server : List ℕ) (h0 : History) (run : Run) : Type 0 where
   pub whole : WholeLaws server h0 run
   pub part : BegunLaws server h0 run
+
+-- the run is lawful, stands at a line's end, and has taken the history to `now`
+pub record Agrees (server : List ℕ) (h0 : History) (run : Run) (now : History) : Type 0 where
+  pub whole : WholeLaws server h0 run
+  pub at_line_end : begun run ≡ []
+  pub history : (point_now server h0 run).history ≡ now
 
 -- each line that came in has its whole answer
 abbrev pub EachAnswered : List ℕ → History → Run → Type 0

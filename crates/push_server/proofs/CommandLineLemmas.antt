@@ -4,7 +4,7 @@ use Rattle.std.specs.Str.{bytes_eq}
 use Rattle.std.proofs.lemmas.Bool.Decides.{nat_tests}
 use Rattle.std.proofs.lemmas.List.{append_cancel_left}
 use Rattle.std.proofs.lemmas.Slice.Eq.{bytes_eq-Decides}
-use Rattle.push_server.specs.Words.{BeginWith, AreEnded, AreRunWords}
+use Rattle.push_server.specs.CommandLine.{BeginWith, AreEnded, AreRunWords}
 
 -- the value behind an option and `=`
 pub value_behind : (word option rest : List ℕ) (found : Option (Bor (List ℕ))) → word ≡ option ++ rest

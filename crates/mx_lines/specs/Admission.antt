@@ -1,4 +1,4 @@
--- What is to be done about a line, what is replied to it, and the history after it: ours.
+-- Whether and how a line is admitted, what is replied to it, and the history after it: ours.
 use Rattle.std.specs.Prelude.{◌≡◌, ℕ, ◌+◌, true, List, [], ◌∷◌, ◌++◌, length, nat_lt, Option, Some, None, Result, Ok, Err, if◌then◌else◌}
 use Rattle.std.specs.Option.{option_map_or}
 use Rattle.mx_records.specs.declared.refusal.Refusal.{Refusal}
@@ -15,9 +15,9 @@ use Rattle.mx_lines.specs.Cutting.{longest_line}
 use Rattle.mx_lines.specs.Commands.{command_of}
 use Rattle.mx_lines.specs.Replies.{ok_text, denied_text, counts_text}
 
--- What is to be done about a line: follow its command, or refuse it.
-abbrev pub Verdict : Type 0
-Verdict = Result Command Denial
+-- What is to be done about a line: its command is followed, or it is denied.
+abbrev pub Admission : Type 0
+Admission = Result Command Denial
 
 -- why the history refuses a command: an input as it says, a question whose user isn't local
 abbrev pub refusal_to : List ℕ → History → Command → Option Refusal
@@ -25,39 +25,39 @@ refusal_to server h (Input input) = refusal_of h input
 refusal_to server h (Counts user room threads) = if is_local server user then None else Some NotLocal
 
 -- a command that the history doesn't refuse is followed
-abbrev pub unless_refused : Command → Option Refusal → Verdict
+abbrev pub unless_refused : Command → Option Refusal → Admission
 unless_refused command refusal = option_map_or (λ why. Err (Refused why)) refusal (Ok command)
 
-abbrev pub verdict_by : List ℕ → History → Result Command LineRefusal → Verdict
-verdict_by server h (Ok command) = unless_refused command (refusal_to server h command)
-verdict_by server h (Err refusal) = Err (Line refusal)
+abbrev pub admission_by : List ℕ → History → Result Command LineRefusal → Admission
+admission_by server h (Ok command) = unless_refused command (refusal_to server h command)
+admission_by server h (Err refusal) = Err (Line refusal)
 
--- The verdict on a line is its command, or the first refusal that applies: its length is looked at first.
-unfoldable pub verdict_of : List ℕ → History → List ℕ → Verdict
-verdict_of server h line =
-    if nat_lt longest_line (length line) then Err TooLong else verdict_by server h (command_of line)
+-- The admission of a line is its command, or the first refusal that applies: its length is looked at first.
+unfoldable pub admission_of : List ℕ → History → List ℕ → Admission
+admission_of server h line =
+    if nat_lt longest_line (length line) then Err TooLong else admission_by server h (command_of line)
 
-abbrev pub after_verdict : History → Verdict → History
-after_verdict h (Ok (Input input)) = h ++ input ∷ []
-after_verdict h (Ok (Counts user room threads)) = h
-after_verdict h (Err denial) = h
+abbrev pub after_admission : History → Admission → History
+after_admission h (Ok (Input input)) = h ++ input ∷ []
+after_admission h (Ok (Counts user room threads)) = h
+after_admission h (Err denial) = h
 
 -- The history after a line is answered: an accepted input comes to its end.
 unfoldable pub after : List ℕ → History → List ℕ → History
-after server h line = after_verdict h (verdict_of server h line)
+after server h line = after_admission h (admission_of server h line)
 
 -- the reply to a command that is followed
 abbrev pub reply_to : History → Command → List ℕ
 reply_to h (Input input) = ok_text (inputs_of h + 1)
 reply_to h (Counts user room threads) = counts_text threads (counts_of h user room)
 
-abbrev pub reply_by : History → Verdict → List ℕ
+abbrev pub reply_by : History → Admission → List ℕ
 reply_by h (Ok command) = reply_to h command
 reply_by h (Err denial) = denied_text denial
 
 -- The reply to a line, without its line feed, is computed from the history before it.
 unfoldable pub reply : List ℕ → History → List ℕ → List ℕ
-reply server h line = reply_by h (verdict_of server h line)
+reply server h line = reply_by h (admission_of server h line)
 
 -- the command is a question that this server answers: its user is local
 abbrev pub IsQuestion : List ℕ → Command → Type 0
