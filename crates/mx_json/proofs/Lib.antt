@@ -5,6 +5,7 @@ pub mod RisingLemmas
 pub mod LookLemmas
 pub mod DataLemmas
 pub mod CanonicalLemmas
+pub mod LineLemmas
 pub mod ReadBackLemmas
 pub mod IdLemmas
 pub mod WholeLemmas
