@@ -1,59 +1,47 @@
--- The row of an `event` line, by the first wrong field of its event.
-use Rattle.std.proofs.Common.{◌≡◌, ◌⊎◌, inl, inr, Bool, true, false, cond, List, [], ◌∷◌, map, Option, None, Some, option_map, Result, Ok, Err, refl, ap, ◌∙◌, subst}
+-- The command of an input, by what the input is read as.
+use Rattle.std.proofs.Common.{◌≡◌, ◌⊎◌, inl, inr, List, Option, None, Some, Result, Ok, Err, sym, ap, ◌∙◌}
 use Rattle.std.specs.Option.{option_map_or}
 use Rattle.mx_json.specs.declared.value.Json.{Json}
-use Rattle.mx_event.specs.declared.error.EventError.{EventError}
-use Rattle.mx_event.specs.declared.error.EventError.TheVariants.{BadEvent, OutOfMemory}
-use Rattle.mx_event.specs.declared.error.EventField.{EventField}
-use Rattle.mx_event.specs.Event.{fields_of, first_wrong, first_wrong_field, read_event}
-use Rattle.mx_records.specs.declared.input.Input.TheVariants.{Event}
+use Rattle.mx_event.specs.Event.{first_wrong}
+use Rattle.mx_records.specs.declared.field_name.FieldName.{FieldName}
+use Rattle.mx_records.specs.declared.input.Input.{Input}
+use Rattle.mx_records.specs.declared.input_error.InputError.{InputError}
+use Rattle.mx_records.specs.declared.input_error.InputError.TheVariants as input_error
+use Rattle.mx_records.specs.Forms.{Form, value_of_form, input_form_in, input_in}
 use Rattle.mx_lines.specs.declared.command.Command.{Command}
-use Rattle.mx_lines.specs.declared.command.Command.TheVariants.{Input}
+use Rattle.mx_lines.specs.declared.command.Command.TheVariants.{Input as InputCommand}
 use Rattle.mx_lines.specs.declared.command.LineRefusal.{LineRefusal}
 use Rattle.mx_lines.specs.declared.command.LineRefusal.TheVariants.{BadField}
-use Rattle.mx_lines.specs.declared.field_name.FieldName.{FieldName}
-use Rattle.mx_lines.specs.Commands.{name_in_line, event_in, event_row, command_by}
+use Rattle.mx_lines.specs.Commands.{command_by, input_form}
 
-first_or : (right : Bool) (field : EventField) (later : Option FieldName) (earlier : Option EventField) → later ≡ option_map name_in_line earlier
-    → cond right later (Some (name_in_line field)) ≡ option_map name_in_line (cond right earlier (Some field))
-first_or true field later earlier same = same
-first_or false field later earlier same = refl
+abbrev input_with : Option FieldName → Input → Result Input InputError
+input_with wrong input = option_map_or (λ field. Err (input_error.BadField field)) wrong (Ok input)
 
-first_wrong-map : (fields : List (EventField × Bool))
-    → first_wrong (map (λ field. (name_in_line field.0, field.1)) fields) ≡ option_map name_in_line (first_wrong fields)
-first_wrong-map [] = refl
-first_wrong-map (field ∷ fields) = first_or field.1 field.0 _ _ (first_wrong-map fields)
+abbrev command_with : Option FieldName → Input → Result Command LineRefusal
+command_with wrong input = option_map_or (λ field. Err (BadField field)) wrong (Ok (InputCommand input))
 
--- the command of an event's row, by the first field that is wrong
-abbrev command_with : Option FieldName → Json → Result Command LineRefusal
-command_with wrong event = option_map_or (λ field. Err (BadField field)) wrong (Ok (Input (Event event)))
+right : (wrong : Option FieldName) (value input : Input) → input_with wrong value ≡ Ok input → command_with wrong value ≡ Ok (InputCommand input)
+right None value input is = cc
+right (Some field) value input is = absurd cc
 
-abbrev event_with : Option EventField → Json → Result Json EventError
-event_with wrong event = option_map_or (λ field. Err (BadEvent field)) wrong (Ok event)
+wrong_at : (wrong : Option FieldName) (value : Input) (field : FieldName) → input_with wrong value ≡ Err (input_error.BadField field)
+    → command_with wrong value ≡ Err (BadField field)
+wrong_at None value field is = absurd cc
+wrong_at (Some first) value field is = cc
 
-right : (wrong : Option EventField) (json event : Json) → event_with wrong json ≡ Ok event
-    → command_with (option_map name_in_line wrong) json ≡ Ok (Input (Event event))
-right None json event is = cc
-right (Some field) json event is = absurd cc
+input_in-by : (line : Json) (form : Form Input) → input_form_in line ≡ Some form → input_in line ≡ input_with (first_wrong form.fields) form.value
+unfolding input_in
+input_in-by line form is = rw is
 
-wrong_at : (wrong : Option EventField) (json : Json) (field : EventField) → event_with wrong json ≡ Err (BadEvent field)
-    → command_with (option_map name_in_line wrong) json ≡ Err (BadField (name_in_line field))
-wrong_at None json field is = absurd cc
-wrong_at (Some first) json field is = cc
+-- an object that is read as an input gives its command
+pub command_by-right : (line : Json) (form : Form Input) (input : Input) → input_form_in line ≡ Some form → input_in line ≡ Ok input
+    → command_by (input_form form) ≡ Ok (InputCommand input)
+command_by-right line form input is read = right (first_wrong form.fields) form.value input (sym (input_in-by line form is) ∙ read)
 
-command_by-event : (line : Json) → command_by (event_row line) ≡ command_with (option_map name_in_line (first_wrong_field (event_in line))) (event_in line)
-unfolding first_wrong_field
-command_by-event line = ap (λ wrong. command_with wrong (event_in line)) (first_wrong-map (fields_of (event_in line)))
-
--- the line of an event gives its command
-pub command_by-right : (line json event : Json) → json ≡ event_in line → read_event json ≡ Ok event → command_by (event_row line) ≡ Ok (Input (Event event))
-command_by-right line json event same is =
-    command_by-event line ∙ right (first_wrong_field (event_in line)) (event_in line) event (subst (λ of. read_event of ≡ Ok event) same is)
-
--- the line of no event is refused at the event's first wrong field
-pub command_by-wrong : (line json : Json) (error : EventError) (field : EventField) → json ≡ event_in line → error ≡ BadEvent field
-    → (read_event json ≡ Err error) ⊎ (error ≡ OutOfMemory) → command_by (event_row line) ≡ Err (BadField (name_in_line field))
-command_by-wrong line json error field same at (inr memory) = absurd cc
-command_by-wrong line json error field same at (inl is) =
-    let told : read_event (event_in line) ≡ Err (BadEvent field) = subst (λ of. read_event of ≡ Err (BadEvent field)) same (is ∙ ap (λ e. Err e) at) in
-    command_by-event line ∙ wrong_at (first_wrong_field (event_in line)) (event_in line) field told
+-- another is refused at the first wrong field
+pub command_by-wrong : (line : Json) (form : Form Input) (error : InputError) (field : FieldName) → input_form_in line ≡ Some form
+    → error ≡ input_error.BadField field → (input_in line ≡ Err error) ⊎ (error ≡ input_error.OutOfMemory)
+    → command_by (input_form form) ≡ Err (BadField field)
+command_by-wrong line form error field is at (inl read) =
+    wrong_at (first_wrong form.fields) form.value field (sym (input_in-by line form is) ∙ read ∙ ap (λ e. Err e) at)
+command_by-wrong line form error field is at (inr memory) = absurd cc

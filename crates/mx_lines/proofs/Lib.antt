@@ -9,3 +9,4 @@ pub mod ListLemmas
 pub mod ReplyLemmas
 pub mod RestingLemmas
 pub mod RunsLemmas
+pub mod ValueLemmas

@@ -1,9 +1,10 @@
 -- Whether and how a line is admitted, what is replied to it, and the history after it: ours.
-use Rattle.std.specs.Prelude.{◌≡◌, ℕ, ◌+◌, true, List, [], ◌∷◌, ◌++◌, length, nat_lt, Option, Some, None, Result, Ok, Err, if◌then◌else◌}
+use Rattle.std.specs.Prelude.{◌≡◌, ℕ, true, List, length, nat_lt, Option, Some, None, Result, Ok, Err, if◌then◌else◌}
 use Rattle.std.specs.Option.{option_map_or}
 use Rattle.mx_records.specs.declared.refusal.Refusal.{Refusal}
 use Rattle.mx_records.specs.declared.refusal.Refusal.TheVariants.{NotLocal}
-use Rattle.mx_records.specs.History.{History, inputs_of}
+use Rattle.mx_json.specs.declared.value.Json.{Json}
+use Rattle.mx_records.specs.History.{History, with_input, position_after}
 use Rattle.mx_records.specs.Counting.{counts_of}
 use Rattle.mx_records.specs.Refusing.{refusal_of, is_local}
 use Rattle.mx_lines.specs.declared.command.Command.{Command}
@@ -13,7 +14,7 @@ use Rattle.mx_lines.specs.declared.command.Denial.{Denial}
 use Rattle.mx_lines.specs.declared.command.Denial.TheVariants.{TooLong, Line, Input as Refused}
 use Rattle.mx_lines.specs.Cutting.{longest_line}
 use Rattle.mx_lines.specs.Commands.{command_of}
-use Rattle.mx_lines.specs.Replies.{ok_text, denied_text, counts_text}
+use Rattle.mx_lines.specs.Replies.{ok_value, denied_value, counts_value, reply_text}
 
 -- What is to be done about a line: its command is followed, or it is denied.
 abbrev pub Admission : Type 0
@@ -21,7 +22,7 @@ Admission = Result Command Denial
 
 -- why the history refuses a command: an input as it says, a question whose user isn't local
 abbrev pub refusal_to : List ℕ → History → Command → Option Refusal
-refusal_to server h (Input input) = refusal_of h input
+refusal_to server h (Input input) = refusal_of server h input
 refusal_to server h (Counts user room threads) = if is_local server user then None else Some NotLocal
 
 -- a command that the history doesn't refuse is followed
@@ -38,7 +39,7 @@ admission_of server h line =
     if nat_lt longest_line (length line) then Err TooLong else admission_by server h (command_of line)
 
 abbrev pub after_admission : History → Admission → History
-after_admission h (Ok (Input input)) = h ++ input ∷ []
+after_admission h (Ok (Input input)) = with_input h input
 after_admission h (Ok (Counts user room threads)) = h
 after_admission h (Err denial) = h
 
@@ -46,18 +47,18 @@ after_admission h (Err denial) = h
 unfoldable pub after : List ℕ → History → List ℕ → History
 after server h line = after_admission h (admission_of server h line)
 
--- the reply to a command that is followed
-abbrev pub reply_to : History → Command → List ℕ
-reply_to h (Input input) = ok_text (inputs_of h + 1)
-reply_to h (Counts user room threads) = counts_text threads (counts_of h user room)
+-- what is replied to a command that is followed
+abbrev pub reply_to : List ℕ → History → Command → Json
+reply_to server h (Input input) = ok_value (position_after h)
+reply_to server h (Counts user room threads) = counts_value threads (counts_of server h user room)
 
-abbrev pub reply_by : History → Admission → List ℕ
-reply_by h (Ok command) = reply_to h command
-reply_by h (Err denial) = denied_text denial
+abbrev pub reply_by : List ℕ → History → Admission → Json
+reply_by server h (Ok command) = reply_to server h command
+reply_by server h (Err denial) = denied_value denial
 
 -- The reply to a line, without its line feed, is computed from the history before it.
 unfoldable pub reply : List ℕ → History → List ℕ → List ℕ
-reply server h line = reply_by h (admission_of server h line)
+reply server h line = reply_text (reply_by server h (admission_of server h line))
 
 -- the command is a question that this server answers: its user is local
 abbrev pub IsQuestion : List ℕ → Command → Type 0

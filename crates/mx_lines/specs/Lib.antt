@@ -1,9 +1,8 @@
 pub mod Lines
-pub mod CommandWords
-pub mod FieldNames
+pub mod QuestionWords
 pub mod Commands
-pub mod Admission
 pub mod Replies
+pub mod Admission
 pub mod Runs
 pub mod Laws
 pub mod Cutting

@@ -1,50 +1,78 @@
--- The texts of replies, without their line feed: ours.
-use Rattle.std.specs.Prelude.{ℕ, Bool, List, ◌++◌, codes, if◌then◌else◌}
-use Rattle.std.specs.Fmt.{decimal}
+-- What is replied: JSON objects, and their texts. Ours.
+use Rattle.std.specs.Prelude.{ℕ, pos, Bool, List, [], ◌∷◌, ◌++◌, codes, if◌then◌else◌}
+use Rattle.mx_json.specs.declared.value.Json.{Json, Whole, Text, Object}
+use Rattle.mx_json.specs.Canonical.{canonical}
 use Rattle.mx_records.specs.declared.counts.Counts.{Counts}
 use Rattle.mx_records.specs.declared.refusal.Refusal.{Refusal}
-use Rattle.mx_records.specs.declared.refusal.Refusal.TheVariants.{NotLocal, KnownEvent}
+use Rattle.mx_records.specs.declared.refusal.Refusal.TheVariants.{NotLocal, KnownEvent, Full}
+use Rattle.mx_records.specs.FieldNames.{name_of}
+use Rattle.mx_records.specs.Refusing.{most_inputs, NamesAPosition}
 use Rattle.mx_lines.specs.declared.command.Denial.{Denial}
 use Rattle.mx_lines.specs.declared.command.Denial.TheVariants.{TooLong, Line, Input}
 use Rattle.mx_lines.specs.declared.command.LineRefusal.{LineRefusal}
 use Rattle.mx_lines.specs.declared.command.LineRefusal.TheVariants.{BadLine, NotWhole, BadField, NotBuilt}
-use Rattle.mx_lines.specs.FieldNames.{name_of}
+
+-- The text of a reply, without its line feed: `= ` and the canonical text of its object.
+unfoldable pub reply_text : Json → List ℕ
+reply_text value = codes "= " ++ canonical value
+
+-- an object of these members
+abbrev pub object_of : List (List ℕ × Json) → Json
+object_of members = Object record { pairs = members }
+
+abbrev pub number_of : ℕ → Json
+number_of n = Whole (pos n)
 
 -- the input at this position was accepted
-unfoldable pub ok_text : ℕ → List ℕ
-ok_text position = codes "= {\"ok\":" ++ (decimal position ++ codes "}")
+unfoldable pub ok_value : ℕ → Json
+ok_value position = object_of ((codes "ok", number_of position) ∷ [])
+
+-- ---- refusals
+
+-- the name of a refusal, and what is told beside it
+abbrev pub error_value : List ℕ → List (List ℕ × Json) → Json
+error_value name beside = object_of ((codes "error", Text name) ∷ beside)
 
 -- why a line has no command
-abbrev pub line_refusal_text : LineRefusal → List ℕ
-line_refusal_text BadLine = codes "= {\"error\":\"BadLine\"}"
-line_refusal_text NotWhole = codes "= {\"error\":\"NotWhole\"}"
-line_refusal_text (BadField field) = codes "= {\"error\":\"BadField\",\"field\":\"" ++ (name_of field ++ codes "\"}")
-line_refusal_text NotBuilt = codes "= {\"error\":\"NotBuilt\"}"
+abbrev pub line_refusal_value : LineRefusal → Json
+line_refusal_value BadLine = error_value (codes "BadLine") []
+line_refusal_value NotWhole = error_value (codes "NotWhole") []
+line_refusal_value (BadField field) = error_value (codes "BadField") ((codes "field", Text (name_of field)) ∷ [])
+line_refusal_value NotBuilt = error_value (codes "NotBuilt") []
 
 -- why a history refuses what a line asks for
-abbrev pub refusal_text : Refusal → List ℕ
-refusal_text NotLocal = codes "= {\"error\":\"NotLocal\"}"
-refusal_text (KnownEvent position) = codes "= {\"error\":\"KnownEvent\",\"position\":" ++ (decimal position ++ codes "}")
+abbrev pub refusal_value : Refusal → Json
+refusal_value NotLocal = error_value (codes "NotLocal") []
+refusal_value (KnownEvent position) = error_value (codes "KnownEvent") ((codes "position", number_of position) ∷ [])
+refusal_value Full = error_value (codes "Full") ((codes "limit", number_of most_inputs) ∷ [])
 
 -- why a line is refused
-unfoldable pub denied_text : Denial → List ℕ
-denied_text TooLong = codes "= {\"error\":\"LineTooLong\"}"
-denied_text (Line refusal) = line_refusal_text refusal
-denied_text (Input refusal) = refusal_text refusal
+unfoldable pub denied_value : Denial → Json
+denied_value TooLong = error_value (codes "LineTooLong") []
+denied_value (Line refusal) = line_refusal_value refusal
+denied_value (Input refusal) = refusal_value refusal
 
--- the two numbers, and this end
-abbrev pub numbers_text : Counts → List ℕ → List ℕ
-numbers_text counts end =
-    codes "= {\"highlight_count\":" ++ (decimal counts.highlight ++ (codes ",\"notification_count\":" ++ (decimal counts.notify ++ end)))
+-- a number that a refusal names is a position
+abbrev pub NamesInRange : Denial → Type 0
+NamesInRange TooLong = Unit {0}
+NamesInRange (Line refusal) = Unit {0}
+NamesInRange (Input refusal) = NamesAPosition refusal
+
+-- ---- counts
+
+-- the two numbers
+abbrev pub numbers_of : Counts → List (List ℕ × Json)
+numbers_of counts =
+    (codes "highlight_count", number_of counts.highlight) ∷ (codes "notification_count", number_of counts.notify) ∷ []
+
+-- the numbers of the main thread, and under `threads` those of each other thread, of which there are none yet
+abbrev pub by_thread : Counts → Json
+by_thread counts = object_of (numbers_of counts ++ (codes "threads", object_of []) ∷ [])
 
 -- the sums over all threads
-abbrev pub sums_text : Counts → List ℕ
-sums_text counts = numbers_text counts (codes "}")
-
--- the numbers of the main thread, and then those of each other thread, of which there are none yet
-abbrev pub threads_text : Counts → List ℕ
-threads_text counts = numbers_text counts (codes ",\"threads\":{}}")
+abbrev pub in_sum : Counts → Json
+in_sum counts = object_of (numbers_of counts)
 
 -- the counts, thread by thread or in sum; while every event is in the main thread its numbers are the sums
-unfoldable pub counts_text : Bool → Counts → List ℕ
-counts_text threads counts = if threads then threads_text counts else sums_text counts
+unfoldable pub counts_value : Bool → Counts → Json
+counts_value threads counts = if threads then by_thread counts else in_sum counts

@@ -1,6 +1,5 @@
-use crate::field_name::FieldName;
 use mx_json::{RoomId, UserId};
-use mx_records::{Input, Refusal};
+use mx_records::{FieldName, Input, Refusal};
 use std::error::Error;
 use std::fmt;
 

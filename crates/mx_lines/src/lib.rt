@@ -8,11 +8,10 @@
 
 mod buffer;
 mod command;
-mod command_word;
 mod cut;
 mod cutter;
-mod field_name;
 mod line;
+mod question_word;
 mod reply;
 #[cfg(test)]
 mod tests;
@@ -20,6 +19,5 @@ mod tests;
 pub use command::{Command, Denial, LineError, LineRefusal};
 pub use cut::{Cut, LONGEST_LINE};
 pub use cutter::LineCutter;
-pub use field_name::FieldName;
 pub use line::read;
 pub use reply::{denied_into, ok_into, reply_into};

@@ -1,15 +1,15 @@
-ghost use Rattle.std.specs.Prelude.{◌≡◌, ◌≤◌, true, codes, length, option_map, MatchOption, false};
-ghost use Rattle.mx_json.specs.Json.{is_valid, text_at};
-ghost use Rattle.mx_event.specs.Event.{text_or_empty};
+ghost use Rattle.std.specs.Prelude.{◌≡◌, ◌≤◌, true, length, Some, MatchOption, false};
+ghost use Rattle.mx_json.specs.Json.{is_valid};
+ghost use Rattle.mx_records.specs.declared.input.Input.{Input};
+ghost use Rattle.mx_records.specs.Forms.{Form, input_form_in};
 ghost use Rattle.mx_lines.specs.Cutting.{longest_line};
-ghost use Rattle.mx_lines.specs.Commands.{command_of, command_in, command_by, event_row, counts_row, event_in, name_in_line, word_in, has_threads_or_none, threads_in, ReadsAs};
+ghost use Rattle.mx_lines.specs.Commands.{command_of, command_in, question_in, command_by, input_form, counts_form};
+ghost use Rattle.mx_lines.specs.Commands.{has_threads_or_none, threads_in, ReadsAs};
 
 use crate::command::{Command, LineError, LineRefusal};
-use crate::command_word::{CommandWord, word_named};
-use crate::field_name::FieldName;
-use mx_event::{Event, EventError, EventField};
+use crate::question_word::QuestionWord;
 use mx_json::{IdError, Json, JsonError, RoomId, UserId};
-use mx_records::Input;
+use mx_records::{FieldName, Input, InputError, InputWord};
 use std::alloc::Global;
 
 #[cfg(test)]
@@ -46,19 +46,37 @@ fn read_command(alloc: Global, line: Json) -> Result<Command, LineError>
     requires { is_valid line ≡ true }
     ensures { ReadsAs (command_in line) result }
 {
-    match read_word(&line) {
-        Some(CommandWord::Event) => read_event(alloc, line),
-        Some(CommandWord::Counts) => read_counts(alloc, &line),
+    match InputWord::of(&line) {
+        Some(InputWord::Event) => read_input(alloc, line),
         Some(_) => Err(LineError::Refused(LineRefusal::NotBuilt)),
-        None => Err(bad_field(FieldName::Cmd)),
+        None => read_question(alloc, &line),
     }
 }
 
-/// The word of the line's command.
-fn read_word(line: &Json) -> Option<CommandWord>
-    ensures { result ≡ word_in line.now }
+/// The command of an input whose form is built.
+fn read_input(alloc: Global, line: Json) -> Result<Command, LineError>
+    requires { is_valid line ≡ true }
+    ensures { (form : Form Input) → input_form_in line ≡ Some form
+        → ReadsAs (command_by (input_form form)) result }
 {
-    word_named(line.member("cmd")?.as_text()?)
+    match Input::from_json(alloc, line) {
+        Ok(input) => Ok(Command::Input(input)),
+        Err(InputError::BadField(field)) => Err(bad_field(field)),
+        Err(InputError::OutOfMemory) => Err(LineError::OutOfMemory),
+    }
+}
+
+/// The command of a line whose word is no input's.
+#[tactic(auto, unfolding(crate::specs::Commands::question_in))]
+fn read_question(alloc: Global, line: &Json) -> Result<Command, LineError>
+    requires { is_valid line.now ≡ true }
+    ensures { ReadsAs (question_in line.now) result }
+{
+    match QuestionWord::of(line) {
+        Some(QuestionWord::Counts) => read_counts(alloc, line),
+        Some(_) => Err(LineError::Refused(LineRefusal::NotBuilt)),
+        None => Err(bad_field(FieldName::Cmd)),
+    }
 }
 
 fn bad_field(field: FieldName) -> LineError
@@ -67,57 +85,17 @@ fn bad_field(field: FieldName) -> LineError
     LineError::Refused(LineRefusal::BadField(field))
 }
 
-/// The command of an `event` line.
-fn read_event(alloc: Global, line: Json) -> Result<Command, LineError>
-    requires { is_valid line ≡ true }
-    ensures { ReadsAs (command_by (event_row line)) result }
-{
-    match Event::from_json(alloc, take_event(line)) {
-        Ok(event) => Ok(Command::Input(Input::Event(event))),
-        Err(EventError::BadEvent(field)) => Err(bad_field(name_in_line(field))),
-        Err(EventError::OutOfMemory) => Err(LineError::OutOfMemory),
-    }
-}
-
-/// Moves the value of `event` out of the line.
-fn take_event(line: Json) -> Json
-    requires { is_valid line ≡ true }
-    ensures value { result ≡ event_in line }
-    ensures valid { is_valid result ≡ true }
-{
-    let Json::Object(members) = line else {
-        return Json::Null;
-    };
-    match members.into_member("event") {
-        Some(event) => event,
-        None => Json::Null,
-    }
-}
-
-/// The name of an event's field in a line.
-fn name_in_line(field: EventField) -> FieldName
-    ensures { result ≡ name_in_line field }
-{
-    match field {
-        EventField::EventId => FieldName::EventEventId,
-        EventField::RoomId => FieldName::EventRoomId,
-        EventField::Sender => FieldName::EventSender,
-        EventField::Kind => FieldName::EventKind,
-        EventField::Content => FieldName::EventContent,
-        EventField::StateKey => FieldName::EventStateKey,
-    }
-}
-
 /// The command of a `counts` line.
 fn read_counts(alloc: Global, line: &Json) -> Result<Command, LineError>
-    ensures { ReadsAs (command_by (counts_row line.now)) result }
+    requires { is_valid line.now ≡ true }
+    ensures { ReadsAs (command_by (counts_form line.now)) result }
 {
-    let user = match UserId::read(alloc, text_or_empty(line, "user")) {
+    let user = match UserId::read(alloc, line.text_or_empty("user")) {
         Ok(user) => user,
         Err(IdError::BadId) => return Err(bad_field(FieldName::User)),
         Err(IdError::OutOfMemory) => return Err(LineError::OutOfMemory),
     };
-    let room = match RoomId::read(alloc, text_or_empty(line, "room_id")) {
+    let room = match RoomId::read(alloc, line.text_or_empty("room_id")) {
         Ok(room) => room,
         Err(IdError::BadId) => return Err(bad_field(FieldName::RoomId)),
         Err(IdError::OutOfMemory) => return Err(LineError::OutOfMemory),
@@ -132,18 +110,9 @@ fn read_counts(alloc: Global, line: &Json) -> Result<Command, LineError>
     }
 }
 
-/// The text at a key of the line, and the empty one where there is none.
-fn text_or_empty<'a>(line: &'a Json, key: &str) -> &'a str
-    ensures { result.now ≡ text_or_empty key.now line.now }
-{
-    match line.member(key) {
-        Some(value) => value.as_text().unwrap_or(""),
-        None => "",
-    }
-}
-
 /// Whether the counts are asked for thread by thread; nothing where `threads` is wrong.
 fn read_threads(line: &Json) -> Option<bool>
+    requires { is_valid line.now ≡ true }
     ensures { MatchOption result (has_threads_or_none line.now ≡ false)
         (λ threads. (has_threads_or_none line.now ≡ true) × (threads_in line.now ≡ threads)) }
 {

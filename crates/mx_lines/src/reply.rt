@@ -1,15 +1,16 @@
-ghost use Rattle.std.specs.Prelude.{◌≡◌, ◌++◌, OnOk, OnErr};
-ghost use Rattle.std.specs.List.{flat_map};
+ghost use Rattle.std.specs.Prelude.{◌≡◌, ◌≤◌, ◌++◌, [], ◌∷◌, true, codes, take, vec_len, IfOk, OnOk, OnErr};
+ghost use Rattle.mx_json.specs.Json.{is_valid, largest_whole};
 ghost use Rattle.mx_records.specs.History.{History};
+ghost use Rattle.mx_records.specs.Refusing.{most_inputs, NamesAPosition};
 ghost use Rattle.mx_records.specs.Snapshot.{snapshot_of};
 ghost use Rattle.mx_lines.specs.Lines.{with_feed};
-ghost use Rattle.mx_lines.specs.Replies.{ok_text, line_refusal_text, refusal_text, denied_text, numbers_text, counts_text};
+ghost use Rattle.mx_lines.specs.Replies.{reply_text, number_of, error_value, ok_value, line_refusal_value, refusal_value, denied_value, numbers_of, by_thread, in_sum, counts_value, NamesInRange};
 ghost use Rattle.mx_lines.specs.Admission.{reply_to, IsQuestion};
 
 use crate::command::{Command, Denial, LineRefusal};
-use itoa::Buffer;
-use mx_json::OutOfMemory;
-use mx_records::{Counts, Questions, Refusal};
+use mx_json::{Json, JsonObject, JsonText, OutOfMemory};
+use mx_records::{Counts, MOST_INPUTS, Questions, Refusal};
+use std::alloc::Global;
 
 #[cfg(test)]
 mod tests;
@@ -20,16 +21,12 @@ mod tests;
 /// # Errors
 ///
 /// `OutOfMemory` where the allocator has none.
-#[tactic(auto, unfolding(crate::specs::Replies::ok_text))]
-pub fn ok_into(position: u64, out: &mut Vec<u8>) -> Result<(), OutOfMemory>
-    ensures text { OnOk result (out.new.items ≡ out.old.items ++ with_feed (ok_text position)) }
+pub fn ok_into(alloc: Global, position: u64, out: &mut Vec<u8>) -> Result<(), OutOfMemory>
+    requires { position ≤ largest_whole }
+    ensures text { OnOk result (out.new.items ≡ out.old.items ++ with_feed (reply_text (ok_value position))) }
     ensures err { OnErr result (out.new.items ≡ out.old.items) }
 {
-    let mut digits = Buffer::new();
-    append(
-        &[b"= {\"ok\":", digits.format(position).as_bytes(), b"}\n"],
-        out,
-    )
+    value_into(alloc, &ok_value(alloc, position)?, out)
 }
 
 /// Appends the reply to a line that was refused, with its line feed. After an error `out` is as
@@ -38,45 +35,12 @@ pub fn ok_into(position: u64, out: &mut Vec<u8>) -> Result<(), OutOfMemory>
 /// # Errors
 ///
 /// `OutOfMemory` where the allocator has none.
-#[tactic(auto, unfolding(crate::specs::Replies::denied_text))]
-pub fn denied_into(denial: &Denial, out: &mut Vec<u8>) -> Result<(), OutOfMemory>
-    ensures text { OnOk result (out.new.items ≡ out.old.items ++ with_feed (denied_text denial.now)) }
+pub fn denied_into(alloc: Global, denial: &Denial, out: &mut Vec<u8>) -> Result<(), OutOfMemory>
+    requires { NamesInRange denial.now }
+    ensures text { OnOk result (out.new.items ≡ out.old.items ++ with_feed (reply_text (denied_value denial.now))) }
     ensures err { OnErr result (out.new.items ≡ out.old.items) }
 {
-    match denial {
-        Denial::TooLong => append(&[b"= {\"error\":\"LineTooLong\"}\n"], out),
-        Denial::Line(refusal) => line_refusal_into(refusal, out),
-        Denial::Input(refusal) => refusal_into(refusal, out),
-    }
-}
-
-fn line_refusal_into(refusal: &LineRefusal, out: &mut Vec<u8>) -> Result<(), OutOfMemory>
-    ensures text { OnOk result (out.new.items ≡ out.old.items ++ with_feed (line_refusal_text refusal.now)) }
-    ensures err { OnErr result (out.new.items ≡ out.old.items) }
-{
-    match refusal {
-        LineRefusal::BadLine => append(&[b"= {\"error\":\"BadLine\"}\n"], out),
-        LineRefusal::NotWhole => append(&[b"= {\"error\":\"NotWhole\"}\n"], out),
-        LineRefusal::BadField(field) => {
-            let front = b"= {\"error\":\"BadField\",\"field\":\"";
-            append(&[front, field.name().as_bytes(), b"\"}\n"], out)
-        }
-        LineRefusal::NotBuilt => append(&[b"= {\"error\":\"NotBuilt\"}\n"], out),
-    }
-}
-
-fn refusal_into(refusal: &Refusal, out: &mut Vec<u8>) -> Result<(), OutOfMemory>
-    ensures text { OnOk result (out.new.items ≡ out.old.items ++ with_feed (refusal_text refusal.now)) }
-    ensures err { OnErr result (out.new.items ≡ out.old.items) }
-{
-    match refusal {
-        Refusal::NotLocal => append(&[b"= {\"error\":\"NotLocal\"}\n"], out),
-        Refusal::KnownEvent(position) => {
-            let mut digits = Buffer::new();
-            let front = b"= {\"error\":\"KnownEvent\",\"position\":";
-            append(&[front, digits.format(*position).as_bytes(), b"}\n"], out)
-        }
-    }
+    value_into(alloc, &denied_value(alloc, denial)?, out)
 }
 
 /// Appends the reply to a question of a local user, with its line feed. After an error `out` is as
@@ -86,14 +50,15 @@ fn refusal_into(refusal: &Refusal, out: &mut Vec<u8>) -> Result<(), OutOfMemory>
 ///
 /// `OutOfMemory` where the allocator has none.
 pub fn reply_into<Q: Questions>(
+    alloc: Global,
     questions: &Q,
-    server: &str,
     command: &Command,
     out: &mut Vec<u8>,
 ) -> Result<(), OutOfMemory>
-    requires { IsQuestion server.now command.now }
-    ensures text { (h : History) → Q.snapshot questions.now ≡ snapshot_of server.now h
-        → OnOk result (out.new.items ≡ out.old.items ++ with_feed (reply_to h command.now)) }
+    requires { IsQuestion (Q.server questions.now) command.now }
+    ensures text { (h : History) → Q.snapshot questions.now ≡ snapshot_of (Q.server questions.now) h
+        → OnOk result (out.new.items ≡ out.old.items
+          ++ with_feed (reply_text (reply_to (Q.server questions.now) h command.now))) }
     ensures err { OnErr result (out.new.items ≡ out.old.items) }
 {
     match command {
@@ -101,52 +66,172 @@ pub fn reply_into<Q: Questions>(
             user,
             room,
             threads,
-        } => counts_into(questions.counts(user, room), *threads, out),
+        } => counts_into(alloc, questions.counts(user, room), *threads, out),
         Command::Input(_) => unreachable!(),
     }
 }
 
-#[tactic(auto, unfolding(crate::specs::Replies::counts_text))]
-fn counts_into(counts: Counts, threads: bool, out: &mut Vec<u8>) -> Result<(), OutOfMemory>
-    ensures text { OnOk result (out.new.items ≡ out.old.items ++ with_feed (counts_text threads counts)) }
+fn counts_into(
+    alloc: Global,
+    counts: Counts,
+    threads: bool,
+    out: &mut Vec<u8>,
+) -> Result<(), OutOfMemory>
+    requires notify { counts.notify ≤ most_inputs }
+    requires highlight { counts.highlight ≤ most_inputs }
+    ensures text { OnOk result (out.new.items ≡ out.old.items ++ with_feed (reply_text (counts_value threads counts))) }
     ensures err { OnErr result (out.new.items ≡ out.old.items) }
 {
-    if threads {
-        numbers_into(counts, b",\"threads\":{}}\n", out)
-    } else {
-        numbers_into(counts, b"}\n", out)
-    }
+    value_into(alloc, &counts_value(alloc, counts, threads)?, out)
 }
 
-fn numbers_into(counts: Counts, end: &[u8], out: &mut Vec<u8>) -> Result<(), OutOfMemory>
-    ensures text { OnOk result (out.new.items ≡ out.old.items ++ numbers_text counts end.now) }
-    ensures err { OnErr result (out.new.items ≡ out.old.items) }
-{
-    let mut highlight = Buffer::new();
-    let mut notify = Buffer::new();
-    append(
-        &[
-            b"= {\"highlight_count\":",
-            highlight.format(counts.highlight).as_bytes(),
-            b",\"notification_count\":",
-            notify.format(counts.notify).as_bytes(),
-            end,
-        ],
-        out,
-    )
-}
-
-/// Appends these parts, one behind another. After an error `out` is as before.
-fn append(parts: &[&[u8]], out: &mut Vec<u8>) -> Result<(), OutOfMemory>
-    ensures ok { OnOk result (out.new.items ≡ out.old.items ++ flat_map (λ part. part.now) parts.now) }
+/// Appends `= `, the canonical text of a valid value and a line feed. After an error `out` is as
+/// before.
+fn value_into(alloc: Global, value: &Json, out: &mut Vec<u8>) -> Result<(), OutOfMemory>
+    requires { is_valid value.now ≡ true }
+    ensures text { OnOk result (out.new.items ≡ out.old.items ++ with_feed (reply_text value.now)) }
     ensures err { OnErr result (out.new.items ≡ out.old.items) }
 {
     let length = out.len();
-    for part in parts {
-        if out.extend_from_slice(part).is_err() {
-            out.truncate(length);
-            return Err(OutOfMemory);
-        }
+    let written = append_value(alloc, value, out);
+    if written.is_err() {
+        out.truncate(length);
     }
+    written
+}
+
+/// Appends the same, or with an error a part of it.
+#[tactic(auto, unfolding(crate::specs::Replies::reply_text))]
+fn append_value(alloc: Global, value: &Json, out: &mut Vec<u8>) -> Result<(), OutOfMemory>
+    requires { is_valid value.now ≡ true }
+    ensures text { OnOk result (out.new.items ≡ out.old.items ++ with_feed (reply_text value.now)) }
+    ensures front { take (vec_len out.old) out.new.items ≡ out.old.items }
+{
+    out.extend_from_slice(b"= ")?;
+    value.canonical_into(alloc, out)?;
+    out.push(b'\n')?;
     Ok(())
+}
+
+/// A whole number that JSON can hold.
+fn number(n: u64) -> Json
+    requires { n ≤ largest_whole }
+    ensures { result ≡ number_of n }
+{
+    Json::Whole(n as i64)
+}
+
+#[tactic(auto, unfolding(crate::specs::Replies::ok_value))]
+fn ok_value(alloc: Global, position: u64) -> Result<Json, OutOfMemory>
+    requires { position ≤ largest_whole }
+    ensures { IfOk result (λ value. value ≡ ok_value position) }
+{
+    let members = JsonObject::new(alloc).with(alloc, "ok", number(position))?;
+    Ok(Json::Object(members))
+}
+
+#[tactic(auto, unfolding(crate::specs::Replies::denied_value))]
+fn denied_value(alloc: Global, denial: &Denial) -> Result<Json, OutOfMemory>
+    requires { NamesInRange denial.now }
+    ensures { IfOk result (λ value. value ≡ denied_value denial.now) }
+{
+    match denial {
+        Denial::TooLong => error_value(alloc, "LineTooLong"),
+        Denial::Line(refusal) => line_refusal_value(alloc, refusal),
+        Denial::Input(refusal) => refusal_value(alloc, refusal),
+    }
+}
+
+fn line_refusal_value(alloc: Global, refusal: &LineRefusal) -> Result<Json, OutOfMemory>
+    ensures { IfOk result (λ value. value ≡ line_refusal_value refusal.now) }
+{
+    match refusal {
+        LineRefusal::BadLine => error_value(alloc, "BadLine"),
+        LineRefusal::NotWhole => error_value(alloc, "NotWhole"),
+        LineRefusal::BadField(field) => {
+            let field = Json::Text(JsonText::read(alloc, field.name())?);
+            error_beside(alloc, "BadField", "field", field)
+        }
+        LineRefusal::NotBuilt => error_value(alloc, "NotBuilt"),
+    }
+}
+
+fn refusal_value(alloc: Global, refusal: &Refusal) -> Result<Json, OutOfMemory>
+    requires { NamesAPosition refusal.now }
+    ensures { IfOk result (λ value. value ≡ refusal_value refusal.now) }
+{
+    match refusal {
+        Refusal::NotLocal => error_value(alloc, "NotLocal"),
+        Refusal::KnownEvent(position) => {
+            error_beside(alloc, "KnownEvent", "position", number(*position))
+        }
+        Refusal::Full => error_beside(alloc, "Full", "limit", number(MOST_INPUTS)),
+    }
+}
+
+/// A refusal of this name.
+fn error_value(alloc: Global, name: &str) -> Result<Json, OutOfMemory>
+    ensures { IfOk result (λ value. value ≡ error_value name.now []) }
+{
+    let members = error_members(alloc, name)?;
+    Ok(Json::Object(members))
+}
+
+/// A refusal of this name, with one more member beside it.
+fn error_beside(alloc: Global, name: &str, key: &str, more: Json) -> Result<Json, OutOfMemory>
+    ensures { IfOk result (λ value. value ≡ error_value name.now ((key.now, more) ∷ [])) }
+{
+    let members = error_members(alloc, name)?.with(alloc, key, more)?;
+    Ok(Json::Object(members))
+}
+
+fn error_members(alloc: Global, name: &str) -> Result<JsonObject, OutOfMemory>
+    ensures { IfOk result (λ members. members.pairs ≡ (codes "error", Json.Text name.now) ∷ []) }
+{
+    let name = Json::Text(JsonText::read(alloc, name)?);
+    JsonObject::new(alloc).with(alloc, "error", name)
+}
+
+#[tactic(auto, unfolding(crate::specs::Replies::counts_value))]
+fn counts_value(alloc: Global, counts: Counts, threads: bool) -> Result<Json, OutOfMemory>
+    requires notify { counts.notify ≤ most_inputs }
+    requires highlight { counts.highlight ≤ most_inputs }
+    ensures { IfOk result (λ value. value ≡ counts_value threads counts) }
+{
+    if threads {
+        by_thread(alloc, counts)
+    } else {
+        in_sum(alloc, counts)
+    }
+}
+
+/// The counts of the main thread, and those of each other thread, of which there are none yet.
+fn by_thread(alloc: Global, counts: Counts) -> Result<Json, OutOfMemory>
+    requires notify { counts.notify ≤ most_inputs }
+    requires highlight { counts.highlight ≤ most_inputs }
+    ensures { IfOk result (λ value. value ≡ by_thread counts) }
+{
+    let others = JsonObject::new(alloc);
+    let main = numbers_of(alloc, counts)?;
+    let members = main.with(alloc, "threads", Json::Object(others))?;
+    Ok(Json::Object(members))
+}
+
+/// The sums over all threads.
+fn in_sum(alloc: Global, counts: Counts) -> Result<Json, OutOfMemory>
+    requires notify { counts.notify ≤ most_inputs }
+    requires highlight { counts.highlight ≤ most_inputs }
+    ensures { IfOk result (λ value. value ≡ in_sum counts) }
+{
+    Ok(Json::Object(numbers_of(alloc, counts)?))
+}
+
+fn numbers_of(alloc: Global, counts: Counts) -> Result<JsonObject, OutOfMemory>
+    requires notify { counts.notify ≤ most_inputs }
+    requires highlight { counts.highlight ≤ most_inputs }
+    ensures { IfOk result (λ members. members.pairs ≡ numbers_of counts) }
+{
+    JsonObject::new(alloc)
+        .with(alloc, "highlight_count", number(counts.highlight))?
+        .with(alloc, "notification_count", number(counts.notify))
 }

@@ -1,5 +1,5 @@
 use super::read;
-use crate::{Command, FieldName, LONGEST_LINE};
+use crate::{Command, LONGEST_LINE};
 use mx_records::Input;
 use std::test::Fail;
 
@@ -37,6 +37,5 @@ fn commands(rt: HostRuntime) -> Result<(), Fail> {
             Command::Input(_) => panic!(rt; "not a question"),
         }
     }
-    assert_eq!(rt; FieldName::DataUrl.name(), "data.url");
     Ok(())
 }

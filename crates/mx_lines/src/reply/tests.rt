@@ -1,25 +1,27 @@
 use super::{denied_into, ok_into};
-use crate::{Denial, FieldName, LineRefusal};
-use mx_records::Refusal;
+use crate::{Denial, LineRefusal};
+use mx_records::{FieldName, Refusal};
 use std::test::Fail;
 
 #[test]
 fn texts(rt: HostRuntime) -> Result<(), Fail> {
     let mut out = Vec::new(rt.alloc());
-    ok_into(12, &mut out)?;
+    ok_into(rt.alloc(), 12, &mut out)?;
     for denial in [
         Denial::TooLong,
         Denial::Line(LineRefusal::BadField(FieldName::EventEventId)),
         Denial::Input(Refusal::NotLocal),
         Denial::Input(Refusal::KnownEvent(3)),
+        Denial::Input(Refusal::Full),
     ] {
-        denied_into(&denial, &mut out)?;
+        denied_into(rt.alloc(), &denial, &mut out)?;
     }
     let expected = "= {\"ok\":12}\n\
         = {\"error\":\"LineTooLong\"}\n\
         = {\"error\":\"BadField\",\"field\":\"event.event_id\"}\n\
         = {\"error\":\"NotLocal\"}\n\
-        = {\"error\":\"KnownEvent\",\"position\":3}\n";
+        = {\"error\":\"KnownEvent\",\"position\":3}\n\
+        = {\"error\":\"Full\",\"limit\":1000000}\n";
     assert_eq!(rt; out.as_slice(), expected.as_bytes());
     Ok(())
 }

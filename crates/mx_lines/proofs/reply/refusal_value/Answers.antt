@@ -1,0 +1,4 @@
+use Rattle.mx_lines.proofs.reply.refusal_value.Goals as goal
+
+pub returns-in-NotLocal : goal.returns-in-NotLocal
+returns-in-NotLocal c = rw c.in-NotLocal.is c.error_value.ensures
