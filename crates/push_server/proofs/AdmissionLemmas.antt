@@ -16,19 +16,10 @@ use Rattle.mx_lines.specs.declared.command.Denial.TheVariants.{TooLong, Line, In
 use Rattle.mx_lines.specs.Commands.{command_of}
 use Rattle.mx_lines.specs.Cutting.{longest_line}
 use Rattle.mx_lines.specs.Lines.{with_feed}
-use Rattle.mx_lines.specs.Replies.{denied_text}
+use Rattle.mx_lines.specs.Replies.{denied_value, reply_text}
 use Rattle.mx_lines.specs.Admission.{Admission, admission_of, admission_by, unless_refused, after_admission, reply_to, reply_by, reply, after}
 use Rattle.push_server.specs.Answered.{IsAnswered}
 use Rattle.push_server.specs.Steps.{AnswersCut}
-
--- the state knows its server's name
-pub served : (server : List ℕ) (h : History) (shown : Snapshot) → shown ≡ snapshot_of server h → shown.server ≡ server
-unfolding snapshot_of
-served server h shown is = ap (λ (s : Snapshot). s.server) is
-
--- the name under which an engine that stands for a history is asked is that of its server
-pub named : (server name : List ℕ) (h : History) (shown : Snapshot) → shown ≡ snapshot_of server h → name ≡ shown.server → name ≡ server
-named server name h shown stands is = is ∙ served server h shown stands
 
 is_some-copied : (found : Option (Bor (List ℕ))) → is_some (option_copied found) ≡ is_some found
 is_some-copied None = refl
@@ -66,7 +57,7 @@ unfolding admission_of
 admission_of-long server h line long =
     by_test (nat_lt longest_line (length line)) true (Err TooLong) (admission_by server h (command_of line)) (grind (arith, nat_tests))
 
--- the admission of another line is that on what it is read as
+-- the admission of another line is that of what it is read as
 pub admission_of-read : (server : List ℕ) (h : History) (line : List ℕ) (read : Result Command LineRefusal) → length line ≤ longest_line
     → command_of line ≡ read → admission_of server h line ≡ admission_by server h read
 unfolding admission_of
@@ -74,7 +65,7 @@ admission_of-read server h line read short is =
     by_test (nat_lt longest_line (length line)) false (Err TooLong) (admission_by server h (command_of line)) (grind (arith, nat_tests))
     ∙ ap (admission_by server h) is
 
--- an answer with a admission that is this one
+-- an answer with an admission that is this one
 pub answered_as : {T E : Type 0} (result : Result T E) (server : List ℕ) (h : History) (admission other : Admission) (shown : Snapshot) (before now : List ℕ)
     → admission ≡ other → OnOk result (IsAnswered server h other shown before now) → OnOk result (IsAnswered server h admission shown before now)
 answered_as result server h admission other shown before now same answered =
@@ -82,7 +73,7 @@ answered_as result server h admission other shown before now same answered =
 
 -- a refusal changes nothing
 pub answered_denied : {T E : Type 0} (result : Result T E) (server : List ℕ) (h : History) (denial : Denial) (shown : Snapshot) (before now : List ℕ)
-    → shown ≡ snapshot_of server h → OnOk result (now ≡ before ++ with_feed (denied_text denial))
+    → shown ≡ snapshot_of server h → OnOk result (now ≡ before ++ with_feed (reply_text (denied_value denial)))
     → OnOk result (IsAnswered server h (Err denial) shown before now)
 answered_denied (Ok value) server h denial shown before now stands text = record { text = text; history = stands }
 answered_denied (Err error) server h denial shown before now stands text = tt
@@ -90,7 +81,7 @@ answered_denied (Err error) server h denial shown before now stands text = tt
 -- an answer to a question changes nothing
 pub answered_question : {T E : Type 0} (result : Result T E) (server : List ℕ) (h : History) (command : Command) (user room : List ℕ) (threads : Bool)
     (shown : Snapshot) (before now : List ℕ) → command ≡ CountsCommand user room threads → shown ≡ snapshot_of server h
-    → OnOk result (now ≡ before ++ with_feed (reply_to h command)) → OnOk result (IsAnswered server h (Ok command) shown before now)
+    → OnOk result (now ≡ before ++ with_feed (reply_text (reply_to server h command))) → OnOk result (IsAnswered server h (Ok command) shown before now)
 answered_question (Ok value) server h command user room threads shown before now is stands text =
     record { text = text; history = stands ∙ ap (λ c. snapshot_of server (after_admission h (Ok c))) (sym is) }
 answered_question (Err error) server h command user room threads shown before now is stands text = tt
@@ -107,13 +98,13 @@ unfolding after
 after-answered server line h shown before now answered = answered.history
 
 IsAnswered-too_long : (server : List ℕ) (h : History) (shown : Snapshot) (before now line : List ℕ) → longest_line < length line
-    → shown ≡ snapshot_of server h → now ≡ before ++ with_feed (denied_text TooLong) → IsAnswered server h (admission_of server h line) shown before now
+    → shown ≡ snapshot_of server h → now ≡ before ++ with_feed (reply_text (denied_value TooLong)) → IsAnswered server h (admission_of server h line) shown before now
 IsAnswered-too_long server h shown before now line long stands text =
     rw (admission_of-long server h line long) (record { text = text; history = stands })
 
 -- what is said of every line that is too long
 pub answered_too_long : {T E : Type 0} (result : Result T E) (server : List ℕ) (h : History) (shown : Snapshot) (before now : List ℕ)
-    → shown ≡ snapshot_of server h → OnOk result (now ≡ before ++ with_feed (denied_text TooLong))
+    → shown ≡ snapshot_of server h → OnOk result (now ≡ before ++ with_feed (reply_text (denied_value TooLong)))
     → OnOk result (AnswersCut server h LongCut shown before now)
 answered_too_long (Ok value) server h shown before now stands text =
     λ line long. IsAnswered-too_long server h shown before now line long stands text

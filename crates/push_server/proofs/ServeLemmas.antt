@@ -141,9 +141,9 @@ Running-starts limit server left before a k shown held left_told taken_told stan
 }
 
 -- what the call that answers a piece says
-abbrev pub PieceExtends : {T : Type 0} → List ℕ → Snapshot → Held → Result T Halt → Snapshot → Held → Option (List ℕ) → Option (List ℕ) → Type 0
-PieceExtends piece old held result new next k l =
-    (server : List ℕ) (h0 : History) (run : Run) (bytes : List ℕ) → run.input ≡ bytes ++ piece → AnswersUpTo bytes server h0 run old held
+abbrev pub PieceExtends : {T : Type 0} → List ℕ → List ℕ → Snapshot → Held → Result T Halt → Snapshot → Held → Option (List ℕ) → Option (List ℕ) → Type 0
+PieceExtends server piece old held result new next k l =
+    (h0 : History) (run : Run) (bytes : List ℕ) → run.input ≡ bytes ++ piece → AnswersUpTo bytes server h0 run old held
     → Writes k l (AnswersPiece server h0 run result new next)
 
 -- the run with the piece, and what the answers to it wrote
@@ -160,13 +160,13 @@ record PieceRun {T : Type 0} (limit budget count : ℕ) (server left : List ℕ)
 
 PieceRun-of : {T : Type 0} (result : Result T Halt) (limit budget count : ℕ) (server left before into : List ℕ) (a b k l : Option (List ℕ)) (old new : Snapshot) (held next : Held)
     → Running limit budget server left a before k old held → count ≤ length into → count ≤ budget
-    → WhereTold a b (GivesBytes (got.Bytes count) into) → PieceExtends (take count into) old held result new next k l
+    → WhereTold a b (GivesBytes (got.Bytes count) into) → PieceExtends server (take count into) old held result new next k l
     → PieceRun limit budget count server left b before l result new next
 PieceRun-of result limit budget count server left before into a b k l old new held next running fits within gives extends =
     let piece = take count into in
     let t = WhereTold-at _ a b running.rest gives running.left_told in
     let up = AnswersUpTo-fed running.input server [] (run_of false running.input running.output) piece old held refl running.answers in
-    let w = extends server [] (run_of false (running.input ++ piece) running.output) running.input refl up (before ++ running.output) running.taken_told in
+    let w = extends [] (run_of false (running.input ++ piece) running.output) running.input refl up (before ++ running.output) running.taken_told in
     let size = length-take-le count into fits in
     record {
       input = running.input ++ piece;
@@ -182,7 +182,7 @@ PieceRun-of result limit budget count server left before into a b k l old new he
 
 pub Running-piece : {T : Type 0} (value : T) (limit budget count : ℕ) (server left before into : List ℕ) (a b k l : Option (List ℕ)) (old new : Snapshot) (held next : Held)
     → Running limit budget server left a before k old held → count ≤ length into → count ≤ budget
-    → WhereTold a b (GivesBytes (got.Bytes count) into) → PieceExtends (take count into) old held (Ok value) new next k l
+    → WhereTold a b (GivesBytes (got.Bytes count) into) → PieceExtends server (take count into) old held (Ok value) new next k l
     → Running limit (budget - count) server left b before l new next
 Running-piece value limit budget count server left before into a b k l old new held next running fits within gives extends =
     let p = PieceRun-of (Ok value) limit budget count server left before into a b k l old new held next running fits within gives extends in
@@ -241,7 +241,7 @@ HasLawfulRun-silent limit server left before a k left_told taken_told =
 -- where the answering of a piece halted
 pub HasLawfulRun-halted : (T : Type 0) (error : Halt) (limit budget count : ℕ) (server left before into : List ℕ) (a b k l : Option (List ℕ)) (old new : Snapshot) (held next : Held)
     → Running limit budget server left a before k old held → count ≤ length into → count ≤ budget
-    → WhereTold a b (GivesBytes (got.Bytes count) into) → PieceExtends {T = T} (take count into) old held (Err error) new next k l
+    → WhereTold a b (GivesBytes (got.Bytes count) into) → PieceExtends {T = T} server (take count into) old held (Err error) new next k l
     → HasLawfulRun limit server [] left b before l (status_of error)
 HasLawfulRun-halted T error limit budget count server left before into a b k l old new held next running fits within gives extends =
     let p = PieceRun-of {T = T} (Err error) limit budget count server left before into a b k l old new held next running fits within gives extends in
@@ -256,9 +256,9 @@ last_status (Ok value) = ending.Done
 last_status (Err error) = status_of error
 
 -- what the call that answers the last line says
-abbrev pub LastExtends : {T : Type 0} → Snapshot → Held → Result T Halt → Option (List ℕ) → Option (List ℕ) → Type 0
-LastExtends old held result k l =
-    (server : List ℕ) (h0 : History) (run : Run) → run.ended ≡ true → AnswersUpTo run.input server h0 run old held
+abbrev pub LastExtends : {T : Type 0} → List ℕ → Snapshot → Held → Result T Halt → Option (List ℕ) → Option (List ℕ) → Type 0
+LastExtends server old held result k l =
+    (h0 : History) (run : Run) → run.ended ≡ true → AnswersUpTo run.input server h0 run old held
     → Writes k l (AnswersAll server h0 run result)
 
 MayEnd-last : {T : Type 0} (result : Result T Halt) (server : List ℕ) (run : Run) (out : List ℕ) → AnswersAll server [] run result out
@@ -275,12 +275,12 @@ EndsWell-last (Err error) limit server input written out below answers =
 
 -- where the source ended
 pub HasLawfulRun-last : {T : Type 0} (result : Result T Halt) (limit budget : ℕ) (server left before into : List ℕ) (a b k l : Option (List ℕ)) (shown : Snapshot) (held : Held)
-    → 0 < budget → Running limit budget server left a before k shown held → WhereTold a b (GivesBytes got.End into) → LastExtends shown held result k l
+    → 0 < budget → Running limit budget server left a before k shown held → WhereTold a b (GivesBytes got.End into) → LastExtends server shown held result k l
     → HasLawfulRun limit server [] left b before l (last_status result)
 HasLawfulRun-last result limit budget server left before into a b k l shown held some running gives extends =
     let t = WhereTold-at _ a b running.rest gives running.left_told in
     let up = AnswersUpTo-at_end running.input server [] (run_of false running.input running.output) shown held refl running.answers in
-    let w = extends server [] (run_of true running.input running.output) refl up (before ++ running.output) running.taken_told in
+    let w = extends [] (run_of true running.input running.output) refl up (before ++ running.output) running.taken_told in
     let below : length running.input < limit = omega (arith, running.count, some) in
     let front : left ≡ running.input ++ t.0 = running.front ∙ ap (λ (later : List ℕ). running.input ++ later) (t.2.0 ∙ sym t.2.1) in
     HasLawfulRun-of limit server left before running.input (running.output ++ w.0) t.0 true (last_status result) b l t.1

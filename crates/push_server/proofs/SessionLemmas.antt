@@ -79,9 +79,9 @@ all_given held lines count ready given =
 -- ---- the loop over a piece
 
 -- what the step for a cut says
-abbrev pub Extends : {T : Type 0} → Cut → Snapshot → Result T Halt → Snapshot → Option (List ℕ) → Option (List ℕ) → Type 0
-Extends cut old result new a b =
-    (server : List ℕ) (h0 : History) (run : Run) (answered : ℕ) → GoesOn server h0 run old answered
+abbrev pub Extends : {T : Type 0} → List ℕ → Cut → Snapshot → Result T Halt → Snapshot → Option (List ℕ) → Option (List ℕ) → Type 0
+Extends server cut old result new a b =
+    (h0 : History) (run : Run) (answered : ℕ) → GoesOn server h0 run old answered
     → ShowsNext cut (input_lines run) answered → Writes a b (StepsTo server h0 run (answered + shown_count cut) result new)
 
 -- the cut shows the next line of all bytes that were fed
@@ -95,14 +95,14 @@ pub record Turns (piece : List ℕ) (at n : ℕ) (cut : Cut) (old fed new : Held
   pub line : GivesLine cut fed
 
 -- the lines that end before this place of the piece have their answers
-abbrev pub AnswersSoFar : List ℕ → ℕ → Snapshot → Held → Snapshot → Held → Option (List ℕ) → Option (List ℕ) → Type 0
-AnswersSoFar piece at old held shown now a b =
-    (server : List ℕ) (h0 : History) (run : Run) (bytes : List ℕ) → run.input ≡ bytes ++ piece
+abbrev pub AnswersSoFar : List ℕ → List ℕ → ℕ → Snapshot → Held → Snapshot → Held → Option (List ℕ) → Option (List ℕ) → Type 0
+AnswersSoFar server piece at old held shown now a b =
+    (h0 : History) (run : Run) (bytes : List ℕ) → run.input ≡ bytes ++ piece
     → AnswersUpTo bytes server h0 run old held
     → Writes a b (λ out. AnswersUpTo (bytes ++ take at piece) server h0 (told run out) shown now)
 
-pub AnswersSoFar-starts : (piece : List ℕ) (old : Snapshot) (held : Held) (a : Option (List ℕ)) → AnswersSoFar piece 0 old held old held a a
-AnswersSoFar-starts piece old held a server h0 run bytes is up before told_before =
+pub AnswersSoFar-starts : (server piece : List ℕ) (old : Snapshot) (held : Held) (a : Option (List ℕ)) → AnswersSoFar server piece 0 old held old held a a
+AnswersSoFar-starts server piece old held a h0 run bytes is up before told_before =
     ([], told_before ∙ ap Some (sym (append-nil before)), rw (append-nil, append-nil) up)
 
 told-told : (run : Run) (x y : List ℕ) → told (told run x) y ≡ told run (x ++ y)
@@ -133,36 +133,36 @@ AtTurn-of server h0 run bytes piece at n cut shown old fed new is turns up =
       given = turns.gives.lines (lines_of (bytes ++ take (at + n) piece)) up.answered given;
     }
 
-pub AnswersSoFar-turn : {T : Type 0} (piece : List ℕ) (at n : ℕ) (cut : Cut) (first shown new : Snapshot) (start old fed next : Held) (value : T) (a b c : Option (List ℕ))
-    → AnswersSoFar piece at first start shown old a b → Turns piece at n cut old fed next → Extends cut shown (Ok value) new b c
-    → AnswersSoFar piece (at + n) first start new next a c
-AnswersSoFar-turn piece at n cut first shown new start old fed next value a b c so_far turns extends server h0 run bytes is up before told_before =
-    let w = so_far server h0 run bytes is up before told_before in
+pub AnswersSoFar-turn : {T : Type 0} (server piece : List ℕ) (at n : ℕ) (cut : Cut) (first shown new : Snapshot) (start old fed next : Held) (value : T) (a b c : Option (List ℕ))
+    → AnswersSoFar server piece at first start shown old a b → Turns piece at n cut old fed next → Extends server cut shown (Ok value) new b c
+    → AnswersSoFar server piece (at + n) first start new next a c
+AnswersSoFar-turn server piece at n cut first shown new start old fed next value a b c so_far turns extends h0 run bytes is up before told_before =
+    let w = so_far h0 run bytes is up before told_before in
     let here = AtTurn-of server h0 (told run w.0) bytes piece at n cut shown old fed next is turns w.2 in
-    let v = extends server h0 (told run w.0) here.answered here.goes_on here.shows (before ++ w.0) w.1 in
+    let v = extends h0 (told run w.0) here.answered here.goes_on here.shows (before ++ w.0) w.1 in
     let both : told (told run w.0) v.0 ≡ told run (w.0 ++ v.0) = told-told run w.0 v.0 in (
       w.0 ++ v.0,
       v.1 ∙ ap Some (append_assoc before w.0 v.0),
       rw (← both) (record { answered = here.answered + shown_count cut; goes_on = v.2; given = here.given }),
     )
 
-pub AnswersSoFar-halts : (T : Type 0) (error : Halt) (piece : List ℕ) (at n : ℕ) (cut : Cut) (first shown new : Snapshot) (start old fed next : Held) (a b c : Option (List ℕ))
-    → AnswersSoFar piece at first start shown old a b → Turns piece at n cut old fed next → Extends {T = T} cut shown (Err error) new b c
-    → (server : List ℕ) (h0 : History) (run : Run) (bytes : List ℕ) → run.input ≡ bytes ++ piece → AnswersUpTo bytes server h0 run first start
+pub AnswersSoFar-halts : (T : Type 0) (error : Halt) (server piece : List ℕ) (at n : ℕ) (cut : Cut) (first shown new : Snapshot) (start old fed next : Held) (a b c : Option (List ℕ))
+    → AnswersSoFar server piece at first start shown old a b → Turns piece at n cut old fed next → Extends {T = T} server cut shown (Err error) new b c
+    → (h0 : History) (run : Run) (bytes : List ℕ) → run.input ≡ bytes ++ piece → AnswersUpTo bytes server h0 run first start
     → Writes a c (λ out. IsHalted error server h0 (told run out))
-AnswersSoFar-halts T error piece at n cut first shown new start old fed next a b c so_far turns extends server h0 run bytes is up before told_before =
-    let w = so_far server h0 run bytes is up before told_before in
+AnswersSoFar-halts T error server piece at n cut first shown new start old fed next a b c so_far turns extends h0 run bytes is up before told_before =
+    let w = so_far h0 run bytes is up before told_before in
     let here = AtTurn-of server h0 (told run w.0) bytes piece at n cut shown old fed next is turns w.2 in
-    let v = extends server h0 (told run w.0) here.answered here.goes_on here.shows (before ++ w.0) w.1 in
+    let v = extends h0 (told run w.0) here.answered here.goes_on here.shows (before ++ w.0) w.1 in
     let both : told (told run w.0) v.0 ≡ told run (w.0 ++ v.0) = told-told run w.0 v.0 in
     (w.0 ++ v.0, v.1 ∙ ap Some (append_assoc before w.0 v.0), rw (← both) v.2)
 
-pub AnswersSoFar-ends : (piece : List ℕ) (at : ℕ) (old shown : Snapshot) (held now : Held) (a b : Option (List ℕ))
-    → AnswersSoFar piece at old held shown now a b → length piece ≤ at
-    → (server : List ℕ) (h0 : History) (run : Run) (bytes : List ℕ) → run.input ≡ bytes ++ piece → AnswersUpTo bytes server h0 run old held
+pub AnswersSoFar-ends : (server piece : List ℕ) (at : ℕ) (old shown : Snapshot) (held now : Held) (a b : Option (List ℕ))
+    → AnswersSoFar server piece at old held shown now a b → length piece ≤ at
+    → (h0 : History) (run : Run) (bytes : List ℕ) → run.input ≡ bytes ++ piece → AnswersUpTo bytes server h0 run old held
     → Writes a b (λ out. AnswersUpTo run.input server h0 (told run out) shown now)
-AnswersSoFar-ends piece at old shown held now a b so_far past server h0 run bytes is up before told_before =
-    let w = so_far server h0 run bytes is up before told_before in
+AnswersSoFar-ends server piece at old shown held now a b so_far past h0 run bytes is up before told_before =
+    let w = so_far h0 run bytes is up before told_before in
     let whole : bytes ++ take at piece ≡ run.input = ap (λ (all : List ℕ). bytes ++ all) (take_all at piece past) ∙ sym is in
     (w.0, w.1, rw whole at w.2)
 
@@ -184,14 +184,14 @@ AnswersAll-of : {T : Type 0} (result : Result T Halt) (server : List ℕ) (h0 : 
 AnswersAll-of (Ok value) server h0 run answered shown out all step = IsAllAnswered-of server h0 (told run out) shown answered step all
 AnswersAll-of (Err error) server h0 run answered shown out all step = step
 
-pub answers_last : {T : Type 0} (result : Result T Halt) (cut : Cut) (old new : Snapshot) (held : Held) (a b : Option (List ℕ))
-    → held.ended ≡ false → GivesLast cut held → Extends cut old result new a b
-    → (server : List ℕ) (h0 : History) (run : Run) → run.ended ≡ true → AnswersUpTo run.input server h0 run old held
+pub answers_last : {T : Type 0} (result : Result T Halt) (server : List ℕ) (cut : Cut) (old new : Snapshot) (held : Held) (a b : Option (List ℕ))
+    → held.ended ≡ false → GivesLast cut held → Extends server cut old result new a b
+    → (h0 : History) (run : Run) → run.ended ≡ true → AnswersUpTo run.input server h0 run old held
     → Writes a b (AnswersAll server h0 run result)
-answers_last result cut old new held a b ready last extends server h0 run ended up before told_before =
+answers_last result server cut old new held a b ready last extends h0 run ended up before told_before =
     let all = all_given held (lines_of run.input) up.answered ready up.given in
     let is_last = IsLast-run cut run up.answered ended all (last run.input up.answered up.given) in
-    let v = extends server h0 run up.answered up.goes_on is_last.shows before told_before in
+    let v = extends h0 run up.answered up.goes_on is_last.shows before told_before in
     (v.0, v.1, AnswersAll-of result server h0 run (up.answered + shown_count cut) new v.0 is_last.all v.2)
 
 -- ---- a run that took more, or ended

@@ -8,6 +8,10 @@ abbrev pub WritesText : {T E : Type 0} → Result T E → List ℕ → List ℕ 
 WritesText (Ok value) text old new = new ≡ old ++ text
 WritesText (Err error) text old new = (count : ℕ) × (count < length text) × (new ≡ old ++ take count text)
 
+-- as many bytes as are read in one piece
+abbrev pub largest_piece : ℕ
+largest_piece = 65536
+
 -- at most so many bytes came
 abbrev pub IsPieceWithin : Got → ℕ → Type 0
 IsPieceWithin (Bytes count) most = count ≤ most

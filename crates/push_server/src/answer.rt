@@ -21,12 +21,13 @@ pub fn answer(
     out: &mut Vec<u8>,
 ) -> Result<(), OutOfMemory>
     requires { IsShort cut }
-    ensures { (server : _) (h : History) → engine.old.shown ≡ snapshot_of server h
-        → OnOk result (AnswersCut server h cut.entry engine.new.shown out.old.items out.new.items) }
+    ensures server { engine.new.server ≡ engine.old.server }
+    ensures answered { (h : History) → engine.old.shown ≡ snapshot_of engine.old.server h
+        → OnOk result (AnswersCut engine.old.server h cut.entry engine.new.shown out.old.items out.new.items) }
 {
     match cut {
         Cut::Line(line) => answer_line(alloc, engine, line, out),
-        Cut::TooLong => denied_into(&Denial::TooLong, out),
+        Cut::TooLong => denied_into(alloc, &Denial::TooLong, out),
         Cut::More => Ok(()),
     }
 }
@@ -39,12 +40,14 @@ fn answer_line(
     out: &mut Vec<u8>,
 ) -> Result<(), OutOfMemory>
     requires { length line.now ≤ longest_line }
-    ensures { (server : _) (h : History) → engine.old.shown ≡ snapshot_of server h
-        → OnOk result (IsAnswered server h (admission_of server h line.now) engine.new.shown out.old.items out.new.items) }
+    ensures server { engine.new.server ≡ engine.old.server }
+    ensures answered { (h : History) → engine.old.shown ≡ snapshot_of engine.old.server h
+        → OnOk result (IsAnswered engine.old.server h (admission_of engine.old.server h line.now)
+          engine.new.shown out.old.items out.new.items) }
 {
     match read(alloc, line) {
         Ok(command) => follow(alloc, engine, &command, out),
-        Err(LineError::Refused(refusal)) => denied_into(&Denial::Line(refusal), out),
+        Err(LineError::Refused(refusal)) => denied_into(alloc, &Denial::Line(refusal), out),
         Err(LineError::OutOfMemory) => Err(OutOfMemory),
     }
 }
@@ -56,16 +59,18 @@ fn follow(
     command: &Command,
     out: &mut Vec<u8>,
 ) -> Result<(), OutOfMemory>
-    ensures { (server : _) (h : History) → engine.old.shown ≡ snapshot_of server h
-        → OnOk result (IsAnswered server h (admission_by server h (Ok command.now)) engine.new.shown out.old.items out.new.items) }
+    ensures server { engine.new.server ≡ engine.old.server }
+    ensures answered { (h : History) → engine.old.shown ≡ snapshot_of engine.old.server h
+        → OnOk result (IsAnswered engine.old.server h (admission_by engine.old.server h (Ok command.now))
+          engine.new.shown out.old.items out.new.items) }
 {
     match command {
         Command::Input(input) => accept(alloc, engine, input, out),
         Command::Counts { user, .. } => {
             if user.localpart_on(engine.server()).is_none() {
-                denied_into(&Denial::Input(Refusal::NotLocal), out)
+                denied_into(alloc, &Denial::Input(Refusal::NotLocal), out)
             } else {
-                reply_into(&*engine, engine.server(), command, out)
+                reply_into(alloc, &*engine, command, out)
             }
         }
     }
@@ -78,12 +83,15 @@ fn accept(
     input: &Input,
     out: &mut Vec<u8>,
 ) -> Result<(), OutOfMemory>
-    ensures { (server : _) (h : History) → engine.old.shown ≡ snapshot_of server h
-        → OnOk result (IsAnswered server h (admission_by server h (Ok (Command.Input input.now))) engine.new.shown out.old.items out.new.items) }
+    ensures server { engine.new.server ≡ engine.old.server }
+    ensures answered { (h : History) → engine.old.shown ≡ snapshot_of engine.old.server h
+        → OnOk result (IsAnswered engine.old.server h
+          (admission_by engine.old.server h (Ok (Command.Input input.now)))
+          engine.new.shown out.old.items out.new.items) }
 {
     match engine.prepare(alloc, input) {
-        Ok(plan) => ok_into(engine.apply(plan), out),
-        Err(PrepareError::Refused(refusal)) => denied_into(&Denial::Input(refusal), out),
+        Ok(plan) => ok_into(alloc, engine.apply(plan), out),
+        Err(PrepareError::Refused(refusal)) => denied_into(alloc, &Denial::Input(refusal), out),
         Err(PrepareError::OutOfMemory) => Err(OutOfMemory),
     }
 }

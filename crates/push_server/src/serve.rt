@@ -1,4 +1,4 @@
-ghost use Rattle.std.specs.Prelude.{◌≡◌, ◌⊎◌, ℕ, ◌≤◌, ◌<◌, ◌^◌, List, [], length, map, string_bytes};
+ghost use Rattle.std.specs.Prelude.{◌≡◌, ◌≢◌, ◌⊎◌, ℕ, ◌≤◌, ◌<◌, ◌^◌, List, [], length, map, string_bytes};
 ghost use Rattle.mx_outside.specs.Told.{Rose};
 ghost use Rattle.push_server.specs.CommandLine.{AreRunWords};
 ghost use Rattle.push_server.specs.Headline.{HasLawfulRunOf};
@@ -29,13 +29,16 @@ pub fn serve_within<S: Source, K: Sink>(
 
     // What was read and written is a lawful run.
     ensures lawful { (server : List ℕ) → AreRunWords (map string_bytes words.now) server
-        → HasLawfulRunOf limit server [] (S.left source.old) (S.left source.new) (K.taken sink.old) (K.taken sink.new) result }
+        → HasLawfulRunOf limit server [] (S.left source.old) (S.left source.new)
+          (K.taken sink.old) (K.taken sink.new) result }
 
-    // A fault has its cause.
+    // A fault has its cause, and the first one ends the run.
     ensures read { result ≡ Status.ReadFault → Rose (S.faults source.old) (S.faults source.new) }
     ensures read_count { S.faults source.old ≤ S.faults source.new }
+    ensures read_steady { result ≢ Status.ReadFault → S.faults source.new ≡ S.faults source.old }
     ensures write { result ≡ Status.WriteFault → Rose (K.faults sink.old) (K.faults sink.new) }
     ensures write_count { K.faults sink.old ≤ K.faults sink.new }
+    ensures write_steady { result ≢ Status.WriteFault → K.faults sink.new ≡ K.faults sink.old }
 
     // Without a fault, and with the whole input below the limit, only memory may be wanting.
     ensures done { (server left : List ℕ) → AreRunWords (map string_bytes words.now) server
@@ -67,12 +70,15 @@ pub fn serve<S: Source, K: Sink>(
     ensures writes_nothing { result ≡ Status.Usage → sink.new ≡ sink.old }
 
     ensures lawful { (server : List ℕ) → AreRunWords (map string_bytes words.now) server
-        → HasLawfulRunOf (2 ^ 30) server [] (S.left source.old) (S.left source.new) (K.taken sink.old) (K.taken sink.new) result }
+        → HasLawfulRunOf (2 ^ 30) server [] (S.left source.old) (S.left source.new)
+          (K.taken sink.old) (K.taken sink.new) result }
 
     ensures read { result ≡ Status.ReadFault → Rose (S.faults source.old) (S.faults source.new) }
     ensures read_count { S.faults source.old ≤ S.faults source.new }
+    ensures read_steady { result ≢ Status.ReadFault → S.faults source.new ≡ S.faults source.old }
     ensures write { result ≡ Status.WriteFault → Rose (K.faults sink.old) (K.faults sink.new) }
     ensures write_count { K.faults sink.old ≤ K.faults sink.new }
+    ensures write_steady { result ≢ Status.WriteFault → K.faults sink.new ≡ K.faults sink.old }
 
     ensures done { (server left : List ℕ) → AreRunWords (map string_bytes words.now) server
         → S.left source.old ≡ Some left → length left < 2 ^ 30
@@ -91,11 +97,14 @@ fn serve_lines<S: Source, K: Sink>(
     sink: &mut K,
 ) -> Status
     ensures served { result ≡ Status.Usage → ⊥ }
-    ensures lawful { HasLawfulRunOf limit server.now [] (S.left source.old) (S.left source.new) (K.taken sink.old) (K.taken sink.new) result }
+    ensures lawful { HasLawfulRunOf limit server.now [] (S.left source.old) (S.left source.new)
+        (K.taken sink.old) (K.taken sink.new) result }
     ensures read { result ≡ Status.ReadFault → Rose (S.faults source.old) (S.faults source.new) }
     ensures read_count { S.faults source.old ≤ S.faults source.new }
+    ensures read_steady { result ≢ Status.ReadFault → S.faults source.new ≡ S.faults source.old }
     ensures write { result ≡ Status.WriteFault → Rose (K.faults sink.old) (K.faults sink.new) }
     ensures write_count { K.faults sink.old ≤ K.faults sink.new }
+    ensures write_steady { result ≢ Status.WriteFault → K.faults sink.new ≡ K.faults sink.old }
     ensures limit { (left : List ℕ) → S.left source.old ≡ Some left → result ≡ Status.InputLimit → limit ≤ length left }
 {
     let Ok(mut session) = Session::new(alloc, server) else {

@@ -1,4 +1,4 @@
-ghost use Rattle.std.specs.Prelude.{◌≡◌, ℕ, ◌+◌, ◌≤◌, ◌++◌, false, true, List, [], IfOk, OnOk};
+ghost use Rattle.std.specs.Prelude.{◌≡◌, ◌≢◌, ℕ, ◌+◌, ◌≤◌, ◌++◌, false, true, List, [], IfOk, OnOk};
 ghost use Rattle.mx_lines.specs.Cutting.{nothing_held, IsShort, shown_count};
 ghost use Rattle.mx_outside.specs.Told.{Writes, Rose};
 ghost use Rattle.mx_records.specs.History.{History};
@@ -26,7 +26,8 @@ pub struct Session {
 impl Session {
     /// The run of the homeserver with this name, before any input.
     pub fn new(alloc: Global, server: &str) -> Result<Session, OutOfMemory>
-        ensures engine { IfOk result (λ session. session.engine.shown ≡ snapshot_of server.now []) }
+        ensures server { IfOk result (λ session. session.engine.server ≡ server.now) }
+        ensures empty { IfOk result (λ session. session.engine.shown ≡ snapshot_of server.now []) }
         ensures lines { IfOk result (λ session. session.lines ≡ nothing_held) }
     {
         Ok(Session {
@@ -45,11 +46,14 @@ impl Session {
     ) -> Result<(), Halt>
         requires { self.old.lines.ended ≡ false }
         ensures ready { OnOk result (self.new.lines.ended ≡ false) }
-        ensures extends { (server : List ℕ) (h0 : History) (run : Run) (bytes : List ℕ)
-            → run.input ≡ bytes ++ piece.now → AnswersUpTo bytes server h0 run self.old.engine.shown self.old.lines
-            → Writes (K.taken sink.old) (K.taken sink.new) (AnswersPiece server h0 run result self.new.engine.shown self.new.lines) }
+        ensures server { self.new.engine.server ≡ self.old.engine.server }
+        ensures extends { (h0 : History) (run : Run) (bytes : List ℕ) → run.input ≡ bytes ++ piece.now
+            → AnswersUpTo bytes self.old.engine.server h0 run self.old.engine.shown self.old.lines
+            → Writes (K.taken sink.old) (K.taken sink.new)
+              (AnswersPiece self.old.engine.server h0 run result self.new.engine.shown self.new.lines) }
         ensures count { K.faults sink.old ≤ K.faults sink.new }
         ensures fault { result ≡ Err Halt.WriteFault → Rose (K.faults sink.old) (K.faults sink.new) }
+        ensures steady { result ≢ Err Halt.WriteFault → K.faults sink.new ≡ K.faults sink.old }
     {
         let mut at = 0;
         while at < piece.len() {
@@ -68,11 +72,12 @@ impl Session {
     /// Answers what follows the last line feed, unless that is nothing.
     pub fn finish<K: Sink>(&mut self, alloc: Global, sink: &mut K) -> Result<(), Halt>
         requires { self.old.lines.ended ≡ false }
-        ensures extends { (server : List ℕ) (h0 : History) (run : Run) → run.ended ≡ true
-            → AnswersUpTo run.input server h0 run self.old.engine.shown self.old.lines
-            → Writes (K.taken sink.old) (K.taken sink.new) (AnswersAll server h0 run result) }
+        ensures extends { (h0 : History) (run : Run) → run.ended ≡ true
+            → AnswersUpTo run.input self.old.engine.server h0 run self.old.engine.shown self.old.lines
+            → Writes (K.taken sink.old) (K.taken sink.new) (AnswersAll self.old.engine.server h0 run result) }
         ensures count { K.faults sink.old ≤ K.faults sink.new }
         ensures fault { result ≡ Err Halt.WriteFault → Rose (K.faults sink.old) (K.faults sink.new) }
+        ensures steady { result ≢ Err Halt.WriteFault → K.faults sink.new ≡ K.faults sink.old }
     {
         answer_cut(
             alloc,
@@ -93,11 +98,15 @@ fn answer_cut<K: Sink>(
     sink: &mut K,
 ) -> Result<(), Halt>
     requires { IsShort cut }
-    ensures extends { (server : List ℕ) (h0 : History) (run : Run) (answered : ℕ)
-        → GoesOn server h0 run engine.old.shown answered → ShowsNext cut.entry (input_lines run) answered
-        → Writes (K.taken sink.old) (K.taken sink.new) (StepsTo server h0 run (answered + shown_count cut.entry) result engine.new.shown) }
+    ensures server { engine.new.server ≡ engine.old.server }
+    ensures extends { (h0 : History) (run : Run) (answered : ℕ)
+        → GoesOn engine.old.server h0 run engine.old.shown answered
+        → ShowsNext cut.entry (input_lines run) answered
+        → Writes (K.taken sink.old) (K.taken sink.new)
+          (StepsTo engine.old.server h0 run (answered + shown_count cut.entry) result engine.new.shown) }
     ensures count { K.faults sink.old ≤ K.faults sink.new }
     ensures fault { result ≡ Err Halt.WriteFault → Rose (K.faults sink.old) (K.faults sink.new) }
+    ensures steady { result ≢ Err Halt.WriteFault → K.faults sink.new ≡ K.faults sink.old }
 {
     reply.clear();
     answer(alloc, engine, cut, reply)?;

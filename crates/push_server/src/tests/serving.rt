@@ -262,6 +262,8 @@ impl<K: Sink> Sink for Narrow<K> {
 
     ghost faults = { λ sink. K.faults sink.below };
 
+    ghost budget = { λ sink. K.budget sink.below };
+
     fn write(&mut self, piece: &[u8]) -> Put {
         if piece.len() > 3 {
             self.below.write(&piece[..3])

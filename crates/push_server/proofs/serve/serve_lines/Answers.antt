@@ -1,4 +1,4 @@
-use Rattle.std.proofs.Common.{Ok, Err, ap, arith}
+use Rattle.std.proofs.Common.{Ok, Err, ◌∙◌, refl, ap, arith}
 use Rattle.mx_lines.specs.Cutting.{Held}
 use Rattle.push_server.proofs.ServeLemmas.{HasTaken-nothing, HasTaken-more, Running-starts, Running-piece, HasLawfulRun-silent, HasLawfulRun-halted, HasLawfulRun-last, HasLawfulRun-failed, HasLawfulRun-limit}
 use Rattle.push_server.proofs.serve.serve_lines.Goals as goal
@@ -14,32 +14,36 @@ returns-in_default-piece_buffer-clause-lawful g c left left_told before taken_to
 
 pub loop-left_of_limit-init : goal.loop-left_of_limit-init
 loop-left_of_limit-init g c = record {
-  some = omega (arith, c.in-Ok-piece_buffer.ensures, c.as_mut_slice-buffer.ensures.len);
+  some = omega (arith, c.in-Ok-piece_buffer.ensures.some, c.as_mut_slice-buffer.ensures.len);
+  small = omega (arith, c.in-Ok-piece_buffer.ensures.small, c.as_mut_slice-buffer.ensures.len);
+  server = c.in-Ok.ensures.server;
   ready = ap (λ (held : Held). held.ended) c.in-Ok.ensures.lines;
   taken = HasTaken-nothing c.args.limit _;
   running = λ left left_told before taken_told.
-      Running-starts c.args.limit c.args.server.now left before _ _ _ _ left_told taken_told c.in-Ok.ensures.engine c.in-Ok.ensures.lines;
-  read_count = omega arith;
-  write_count = omega arith;
+      Running-starts c.args.limit c.args.server.now left before _ _ _ _ left_told taken_told c.in-Ok.ensures.empty c.in-Ok.ensures.lines;
+  read_steady = refl;
+  write_steady = refl;
 }
 
 pub returns-in-Err-clause-lawful : goal.returns-in-Err-clause-lawful
 returns-in-Err-clause-lawful g c left left_told before taken_told =
     rw c.status.ensures
     (HasLawfulRun-halted (Unit {0}) c.in-Err.halt c.args.limit c.loop-left_of_limit.left_of_limit c.in-Bytes.count c.args.server.now left before c.read_piece.new.buffer _ _ _ _ _ c.answer_piece.new.self.engine.shown _ c.answer_piece.new.self.lines
-    (c.loop-left_of_limit.invariant.running left left_told before taken_told) c.in-Bytes.ensures.given.1 c.in-Bytes.ensures.within c.in-Bytes.ensures.bytes c.in-Err.ensures.extends)
+    (c.loop-left_of_limit.invariant.running left left_told before taken_told) c.in-Bytes.ensures.given.1 c.in-Bytes.ensures.within c.in-Bytes.ensures.bytes (rw c.loop-left_of_limit.invariant.server at c.in-Err.ensures.extends))
 
 pub loop-left_of_limit-preserved : goal.loop-left_of_limit-preserved
 loop-left_of_limit-preserved g c =
     record {
       some = omega (arith, c.loop-left_of_limit.invariant.some);
+      small = omega (arith, c.loop-left_of_limit.invariant.small);
+      server = c.in_default-answer_piece.ensures.server ∙ c.loop-left_of_limit.invariant.server;
       ready = c.in_default-answer_piece.ensures.ready;
       taken = HasTaken-more c.args.limit c.loop-left_of_limit.left_of_limit c.in-Bytes.count c.read_piece.new.buffer _ _ _ c.in-Bytes.ensures.given.1 c.in-Bytes.ensures.within c.loop-left_of_limit.invariant.taken c.in-Bytes.ensures.bytes;
       running = λ left left_told before taken_told.
           Running-piece c.in_default-answer_piece.field-0 c.args.limit c.loop-left_of_limit.left_of_limit c.in-Bytes.count c.args.server.now left before c.read_piece.new.buffer _ _ _ _ _ _ _ _
-          (c.loop-left_of_limit.invariant.running left left_told before taken_told) c.in-Bytes.ensures.given.1 c.in-Bytes.ensures.within c.in-Bytes.ensures.bytes c.in_default-answer_piece.ensures.extends;
-      read_count = omega arith;
-      write_count = omega arith;
+          (c.loop-left_of_limit.invariant.running left left_told before taken_told) c.in-Bytes.ensures.given.1 c.in-Bytes.ensures.within c.in-Bytes.ensures.bytes (rw c.loop-left_of_limit.invariant.server at c.in_default-answer_piece.ensures.extends);
+      read_steady = c.in-Bytes.ensures.steady (λ failed. cc) ∙ c.loop-left_of_limit.invariant.read_steady;
+      write_steady = c.in_default-answer_piece.ensures.steady (λ failed. cc) ∙ c.loop-left_of_limit.invariant.write_steady;
     }
 
 pub returns-in-End-clause-lawful : goal.returns-in-End-clause-lawful
@@ -48,10 +52,10 @@ returns-in-End-clause-lawful g c left left_told before taken_told =
     elim c.match-finish.branch [
       | in-Ok-finish w ↦
           rw w.result-is
-          (HasLawfulRun-last (Ok w.in-Ok-finish.field-0) c.args.limit c.loop-left_of_limit.left_of_limit c.args.server.now left before c.read_piece.new.buffer _ _ _ _ _ _ c.loop-left_of_limit-test.true running c.in-End.ensures.bytes w.in-Ok-finish.ensures.extends)
+          (HasLawfulRun-last (Ok w.in-Ok-finish.field-0) c.args.limit c.loop-left_of_limit.left_of_limit c.args.server.now left before c.read_piece.new.buffer _ _ _ _ _ _ c.loop-left_of_limit-test.true running c.in-End.ensures.bytes (rw c.loop-left_of_limit.invariant.server at w.in-Ok-finish.ensures.extends))
       | in-Err-finish w ↦
           rw (w.result-is, w.status-in-Err-finish.ensures)
-          (HasLawfulRun-last {T = Unit {0}} (Err w.in-Err-finish.halt) c.args.limit c.loop-left_of_limit.left_of_limit c.args.server.now left before c.read_piece.new.buffer _ _ _ _ _ _ c.loop-left_of_limit-test.true running c.in-End.ensures.bytes w.in-Err-finish.ensures.extends)
+          (HasLawfulRun-last {T = Unit {0}} (Err w.in-Err-finish.halt) c.args.limit c.loop-left_of_limit.left_of_limit c.args.server.now left before c.read_piece.new.buffer _ _ _ _ _ _ c.loop-left_of_limit-test.true running c.in-End.ensures.bytes (rw c.loop-left_of_limit.invariant.server at w.in-Err-finish.ensures.extends))
     ]
 
 pub returns-in-Failed-clause-lawful : goal.returns-in-Failed-clause-lawful

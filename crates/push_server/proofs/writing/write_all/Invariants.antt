@@ -6,7 +6,7 @@ abbrev pub invariant-loop-at : goal.invariant-loop-at
 invariant-loop-at g l = record {
   bytes : WhereTold (g.K.Sink.taken l.initial.sink) (g.K.Sink.taken l.sink) (λ old new. new ≡ old ++ take l.at l.text);
   within : l.at ≤ length l.text;
-  count : g.K.Sink.faults l.initial.sink ≤ g.K.Sink.faults l.sink;
+  steady : g.K.Sink.faults l.sink ≡ g.K.Sink.faults l.initial.sink;
 }
 
 abbrev pub decreases-loop-at : goal.decreases-loop-at
