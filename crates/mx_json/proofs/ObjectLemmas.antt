@@ -9,7 +9,7 @@ use Rattle.mx_json.specs.declared.value.Json.{Json, Null, Truth, Whole, Text, Ob
 use Rattle.mx_json.specs.declared.value.JsonObject.{JsonObject}
 use Rattle.mx_json.specs.Json.{are_rising, depth_of, is_canonical, is_valid, is_whole, largest}
 use Rattle.mx_json.specs.Utf8.{has_utf8}
-use Rattle.mx_json.proofs.JsonLemmas.{depth_of-Object, has_utf8-Object, has_utf8-Text, is_canonical-Object, is_canonical-Whole, is_valid_from, is_valid_parts, with_value}
+use Rattle.mx_json.proofs.JsonLemmas.{depth_of-Object, has_utf8-Object, has_utf8-Text, is_canonical-Object, is_canonical-Whole, is_valid_from, is_valid_parts, is_valid-Text, with_value}
 use Rattle.mx_json.proofs.RisingLemmas.{keys_of, keys_of-with_value}
 
 -- the pair may stand in a valid object
@@ -70,6 +70,9 @@ IsAscii-from (byte ∷ text) ascii =
 
 pub is_utf8-ascii : (text : List ℕ) → is_ascii text ≡ true → is_utf8 text ≡ true
 is_utf8-ascii text ascii = is_utf8-from_IsUtf8 text (IsUtf8-from_ascii text (IsAscii-from text ascii))
+
+pub is_valid-ascii : (text : List ℕ) → is_ascii text ≡ true → is_valid (Text text) ≡ true
+is_valid-ascii text ascii = is_valid-Text text (IsUtf8-from_ascii text (IsAscii-from text ascii))
 
 -- ---- pairs that are fit
 

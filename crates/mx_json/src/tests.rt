@@ -1,8 +1,13 @@
+ghost use Rattle.std.specs.Prelude.{◌≡◌, true};
+ghost use Rattle.mx_json.specs.Json.{is_valid};
+
 use crate::{
-    EventId, IdError, Json, JsonError, JsonText, RoomId, UserId, is_event_id, is_room_id,
-    is_user_id,
+    EventId, IdError, Json, JsonError, JsonObject, JsonText, RoomId, UserId, is_event_id,
+    is_room_id, is_user_id,
 };
 use std::alloc::{AllocError, Global};
+use std::collections::HashMap;
+use std::process::Abort;
 use std::test::Fail;
 
 // The sigil, and then as many `x` as make the text `len` bytes long.
@@ -225,5 +230,56 @@ fn a_value_of_each_kind(rt: HostRuntime) -> Result<(), Fail> {
         panic!(rt; "the list is too short");
     };
     assert!(rt; empty.is_object());
+    Ok(())
+}
+
+// Equal texts alone are equal and have one hash: they are one key of a map.
+#[test]
+fn ids_are_keys(rt: HostRuntime) -> Result<(), Fail> {
+    let alloc = rt.alloc();
+    let mut places = HashMap::new(alloc);
+    places.insert(EventId::read(alloc, "$1")?, 1u64)?;
+    assert_eq!(rt; places.get(&EventId::read(alloc, "$1")?).copied(), Some(1));
+    assert_eq!(rt; places.get(&EventId::read(alloc, "$2")?).copied(), None);
+    assert!(rt; UserId::read(alloc, "@a:b")? == UserId::read(alloc, "@a:b")?);
+    assert!(rt; RoomId::read(alloc, "!a")? != RoomId::read(alloc, "!b")?);
+    assert!(rt; JsonText::read(alloc, "hi")? == JsonText::read(alloc, "hi")?);
+    Ok(())
+}
+
+// What stands at a key, by kind: the value of a key of another kind is none.
+fn looks_up(rt: &impl Abort, json: &Json)
+    requires { is_valid json.now ≡ true }
+{
+    assert_eq!(rt; json.text_at("text"), Some("hi"));
+    assert_eq!(rt; json.text_at("whole"), None);
+    assert_eq!(rt; json.text_or_empty("text"), "hi");
+    assert_eq!(rt; json.text_or_empty("list"), "");
+    assert_eq!(rt; json.truth_at("truth"), Some(true));
+    assert_eq!(rt; json.truth_at("text"), None);
+    assert_eq!(rt; json.whole_at("whole"), Some(-7));
+    assert_eq!(rt; json.whole_at("absent"), None);
+    assert_eq!(rt; json.list_at("list").map(|list| list.len()), Some(2));
+    assert!(rt; json.list_at("truth").is_none());
+}
+
+#[test]
+fn members_by_key(rt: HostRuntime) -> Result<(), Fail> {
+    let text = b"{\"list\":[1,2],\"text\":\"hi\",\"truth\":true,\"whole\":-7}";
+    let json = Json::from_text(rt.alloc(), text, 2)?;
+    looks_up(&rt, &json);
+    Ok(())
+}
+
+#[test]
+fn an_object_that_is_made(rt: HostRuntime) -> Result<(), Fail> {
+    let alloc = rt.alloc();
+    let made = JsonObject::new(alloc).with(alloc, "error", Json::Null)?;
+    let made = made.with(alloc, "position", Json::Whole(3))?;
+    assert_eq!(rt; made.len(), 2);
+    let Some((key, Json::Whole(3))) = made.pair_at(1) else {
+        panic!(rt; "the last member isn't the one that was put there");
+    };
+    assert_eq!(rt; key, "position");
     Ok(())
 }
