@@ -7,7 +7,7 @@ ghost use Rattle.mx_cond.specs.Holds.{Holds};
 
 use crate::error::ConditionError;
 use crate::facts::Facts;
-use crate::reading::wanted_by;
+use crate::kinds::wanted_by;
 use crate::wanted::Wanted;
 use mx_glob::Scratch;
 use mx_json::{Json, OutOfMemory};

@@ -9,9 +9,9 @@ mod condition;
 mod count;
 mod error;
 mod facts;
+mod kinds;
 mod plain;
 mod power;
-mod reading;
 mod wanted;
 
 pub use condition::Condition;

@@ -1,7 +1,7 @@
 ghost use Rattle.std.specs.Prelude.{◌≡◌, true, option_map, IfOk, IfSome};
 ghost use Rattle.std.specs.Option.{option_copied};
 ghost use Rattle.mx_json.specs.Json.{is_valid};
-ghost use Rattle.mx_cond.specs.PowerLevels.{needed_power, number_at, number_of, number_within, power_by, power_of};
+ghost use Rattle.mx_cond.specs.PowerLevels.{needed_power, power_by, power_of, whole_within};
 
 use mx_json::{Json, OutOfMemory};
 use std::alloc::Global;
@@ -61,7 +61,7 @@ impl PowerTable {
         ensures { result ≡ needed_power key.now self.now }
     {
         let said = match &self.content {
-            Some(content) => number_within(content, "notifications", key),
+            Some(content) => whole_within(content, "notifications", key),
             None => None,
         };
         match said {
@@ -87,35 +87,19 @@ fn power_by(content: &Json, user: &str) -> i64
     requires { is_valid content.now ≡ true }
     ensures { result ≡ power_by user.now content.now }
 {
-    if let Some(power) = number_within(content, "users", user) {
+    if let Some(power) = whole_within(content, "users", user) {
         return power;
     }
-    match number_at(content, "users_default") {
+    match content.whole_at("users_default") {
         Some(power) => power,
         None => 0,
     }
 }
 
 // The whole number with the second key in the object with the first.
-fn number_within(json: &Json, outer: &str, key: &str) -> Option<i64>
+fn whole_within(json: &Json, outer: &str, key: &str) -> Option<i64>
     requires { is_valid json.now ≡ true }
-    ensures { result ≡ number_within outer.now key.now json.now }
+    ensures { result ≡ whole_within outer.now key.now json.now }
 {
-    number_at(json.member_of_valid(outer)?, key)
-}
-
-fn number_at(json: &Json, key: &str) -> Option<i64>
-    requires { is_valid json.now ≡ true }
-    ensures { result ≡ number_at key.now json.now }
-{
-    number_of(json.member_of_valid(key)?)
-}
-
-fn number_of(json: &Json) -> Option<i64>
-    ensures { result ≡ number_of json.now }
-{
-    match json {
-        Json::Whole(number) => Some(*number),
-        _ => None,
-    }
+    json.member(outer)?.whole_at(key)
 }

@@ -150,6 +150,5 @@ fn names_owner(alloc: Global, event: &Event, owner_name: Option<&str>) -> Result
 pub fn body_of(event: &Event) -> Option<&str>
     ensures { option_copied result ≡ option_and_then text_of (look body_path event.now) }
 {
-    let content = event.json().member_of_valid("content")?;
-    content.member_of_valid("body")?.as_text()
+    event.json().member("content")?.text_at("body")
 }

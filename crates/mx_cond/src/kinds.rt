@@ -1,7 +1,6 @@
 //! What a JSON value wants as a condition, kind by kind.
 
 ghost use Rattle.std.specs.Prelude.{◌≡◌, true, codes, option_map, Some};
-ghost use Rattle.std.specs.Option.{option_copied};
 ghost use Rattle.mx_json.specs.Gives.{Gives};
 ghost use Rattle.mx_json.specs.Json.{is_valid, text_at};
 ghost use Rattle.mx_cond.specs.Condition.{or_bad, path_in, pattern_in, value_in, wanted_by, wanted_of_kind, with_both};
@@ -22,7 +21,7 @@ pub fn wanted_by(alloc: Global, json: &Json) -> Result<Wanted, ConditionError>
     requires { is_valid json.now ≡ true }
     ensures { Gives ConditionError.OutOfMemory result (or_bad (wanted_by json.now)) }
 {
-    match text_at(json, "kind") {
+    match json.text_at("kind") {
         Some(kind) => wanted_of_kind(alloc, kind, json),
         None => Err(ConditionError::BadCondition),
     }
@@ -79,7 +78,7 @@ fn room_member_count(json: &Json) -> Result<Wanted, ConditionError>
     ensures { Gives ConditionError.OutOfMemory result
         (or_bad (option_map (λ is. RoomMemberCount (count_asked is)) (text_at (codes "is") json.now))) }
 {
-    match text_at(json, "is") {
+    match json.text_at("is") {
         Some(is) => Ok(Wanted::RoomMemberCount(count_asked(is))),
         None => Err(ConditionError::BadCondition),
     }
@@ -90,7 +89,7 @@ fn sender_notification_permission(alloc: Global, json: &Json) -> Result<Wanted, 
     ensures { Gives ConditionError.OutOfMemory result
         (or_bad (option_map (λ key. SenderNotificationPermission key) (text_at (codes "key") json.now))) }
 {
-    match text_at(json, "key") {
+    match json.text_at("key") {
         Some(key) => Ok(Wanted::SenderNotificationPermission(JsonText::read(alloc, key)?)),
         None => Err(ConditionError::BadCondition),
     }
@@ -100,7 +99,7 @@ fn path_in(alloc: Global, json: &Json) -> Result<Path, ConditionError>
     requires { is_valid json.now ≡ true }
     ensures { Gives ConditionError.OutOfMemory result (or_bad (path_in json.now)) }
 {
-    match text_at(json, "key") {
+    match json.text_at("key") {
         Some(key) => Ok(Path::read(alloc, key)?),
         None => Err(ConditionError::BadCondition),
     }
@@ -110,7 +109,7 @@ fn pattern_in(alloc: Global, json: &Json) -> Result<Glob, ConditionError>
     requires { is_valid json.now ≡ true }
     ensures { Gives ConditionError.OutOfMemory result (or_bad (pattern_in json.now)) }
 {
-    let Some(pattern) = text_at(json, "pattern") else {
+    let Some(pattern) = json.text_at("pattern") else {
         return Err(ConditionError::BadCondition);
     };
     match Glob::read(alloc, pattern) {
@@ -124,15 +123,8 @@ fn value_in(alloc: Global, json: &Json) -> Result<Plain, ConditionError>
     requires { is_valid json.now ≡ true }
     ensures { Gives ConditionError.OutOfMemory result (or_bad (value_in json.now)) }
 {
-    match json.member_of_valid("value") {
+    match json.member("value") {
         Some(value) => Plain::read(alloc, value),
         None => Err(ConditionError::BadCondition),
     }
-}
-
-fn text_at<'a>(json: &'a Json, key: &str) -> Option<&'a str>
-    requires { is_valid json.now ≡ true }
-    ensures { option_copied result ≡ text_at key.now json.now }
-{
-    json.member_of_valid(key)?.as_text()
 }
