@@ -3,24 +3,17 @@ use Rattle.std.specs.Prelude.{ℕ, Bool, true, false, if◌then◌else◌, List,
 use Rattle.std.specs.List.{list_any}
 use Rattle.std.specs.Option.{option_map_or, option_or}
 use Rattle.std.specs.Str.{bytes_eq}
-use Rattle.mx_json.specs.declared.value.Json.{Json, out-Json}
-use Rattle.mx_json.specs.declared.value.Json.TheOpen.{Json-F}
-use Rattle.mx_json.specs.declared.value.JsonList.{JsonList}
-use Rattle.mx_json.specs.declared.value.JsonObject.{JsonObject}
-use Rattle.mx_json.specs.Json.{member, text_at, text_of}
+use Rattle.mx_json.specs.declared.value.Json.{Json}
+use Rattle.mx_json.specs.Json.{member, text_at, text_of, truth_of}
 use Rattle.mx_rule.specs.declared.action.Action.{Action}
 use Rattle.mx_rule.specs.declared.action.Action.TheVariants.{Notify, Inert, Sound, Highlight}
 use Rattle.mx_rule.specs.declared.verdict.Verdict.{Verdict}
 
 -- ---- what one action does
 
--- the value is true
-abbrev pub is_true_at_top : Json-F Json JsonList JsonObject → Bool
-is_true_at_top (Json-F.Truth truth) = truth
-is_true_at_top other = false
-
+-- the value is the truth value true
 abbrev pub is_true : Json → Bool
-is_true json = is_true_at_top (out-Json json)
+is_true json = unwrap_or (truth_of json) false
 
 -- a tweak `highlight` is on where it has no value, or the value true
 abbrev pub is_on : Json → Bool

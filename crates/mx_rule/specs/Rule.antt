@@ -1,6 +1,5 @@
 -- What a push rule is, and which events it matches: the Client-Server API v1.11, "Push rules".
 use Rattle.std.specs.Prelude.{◌≡◌, ℕ, nat_lt, Bool, false, ◌&&◌, ◌||◌, if◌then◌else◌, List, [], length, codes, Option, Some, None, is_some, Result, Ok, Err, IsTrue, All}
-use Rattle.std.specs.List.{list_all}
 use Rattle.std.specs.Str.{bytes_eq}
 use Rattle.mx_json.specs.declared.value.Json.{Json}
 use Rattle.mx_json.specs.Folded.{folded}
@@ -9,11 +8,8 @@ use Rattle.mx_glob.specs.Words.{WordMatches}
 use Rattle.mx_glob.specs.declared.error.GlobError.{GlobError}
 use Rattle.mx_glob.specs.declared.error.GlobError.TheVariants.{PatternTooLong}
 use Rattle.mx_event.specs.Event.{content_of, room_id_of, sender_of}
-use Rattle.mx_cond.specs.Condition.{is_condition}
 use Rattle.mx_cond.specs.Facts.{EventFacts}
 use Rattle.mx_cond.specs.Holds.{body_path, Holds, HasText}
-use Rattle.mx_cond.specs.declared.error.ConditionError.{ConditionError}
-use Rattle.mx_cond.specs.declared.error.ConditionError.TheVariants.{BadCondition}
 use Rattle.mx_rule.specs.declared.criterion.Criterion.{Criterion}
 use Rattle.mx_rule.specs.declared.criterion.Criterion.TheVariants.{Conditions, Word, InRoom, FromSender}
 
@@ -40,10 +36,6 @@ conditions_of other = []
 abbrev pub pattern_of : Criterion → Option (List ℕ)
 pattern_of (Word pattern) = Some pattern
 pattern_of other = None
-
--- what these values are as the conditions of a rule, or that one of them is no condition
-abbrev pub read_conditions : List Json → Result Criterion ConditionError
-read_conditions given = if list_all is_condition given then Ok (Conditions given) else Err BadCondition
 
 -- a text as a pattern, or that it has more than 1,024 bytes
 abbrev pub read_pattern : List ℕ → Result (List ℕ) GlobError

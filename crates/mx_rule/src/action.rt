@@ -1,6 +1,5 @@
-ghost use Rattle.std.specs.Prelude.{◌≡◌, codes, IfOk};
-ghost use Rattle.std.specs.Option.{option_copied};
-ghost use Rattle.mx_json.specs.Json.{text_at};
+ghost use Rattle.std.specs.Prelude.{◌≡◌, true, codes, IfOk};
+ghost use Rattle.mx_json.specs.Json.{is_valid, text_at};
 ghost use Rattle.mx_rule.specs.Actions.{action_of, is_on, is_true, setting_of, tweak_of, word_of};
 ghost use Rattle.mx_rule.specs.declared.action.Action.TheVariants.{Sound};
 
@@ -21,13 +20,14 @@ pub enum Action {
 }
 
 impl Action {
-    /// What an action does that is this JSON.
+    /// What an action does that is this valid JSON value.
     ///
     /// # Errors
     ///
     /// `OutOfMemory` where the allocator has none.
     #[tactic(auto, unfolding(crate::specs::Actions::action_of))]
     pub fn read(alloc: Global, json: &Json) -> Result<Action, OutOfMemory>
+        requires { is_valid json.now ≡ true }
         ensures { IfOk result (λ action. action ≡ action_of json.now) }
     {
         match json.as_text() {
@@ -48,15 +48,17 @@ fn word_of(word: &str) -> Action
 }
 
 fn setting_of(alloc: Global, json: &Json) -> Result<Action, OutOfMemory>
+    requires { is_valid json.now ≡ true }
     ensures { IfOk result (λ action. action ≡ setting_of json.now) }
 {
-    match text_at(json, "set_tweak") {
+    match json.text_at("set_tweak") {
         Some(name) => tweak_of(alloc, name, json),
         None => Ok(Action::Inert),
     }
 }
 
 fn tweak_of(alloc: Global, name: &str, tweak: &Json) -> Result<Action, OutOfMemory>
+    requires { is_valid tweak.now ≡ true }
     ensures { IfOk result (λ action. action ≡ tweak_of name.now tweak.now) }
 {
     match name {
@@ -67,15 +69,17 @@ fn tweak_of(alloc: Global, name: &str, tweak: &Json) -> Result<Action, OutOfMemo
 }
 
 fn sound_of(alloc: Global, tweak: &Json) -> Result<Action, OutOfMemory>
+    requires { is_valid tweak.now ≡ true }
     ensures { IfOk result (λ action. action ≡ Sound (text_at (codes "value") tweak.now)) }
 {
-    match text_at(tweak, "value") {
+    match tweak.text_at("value") {
         Some(name) => Ok(Action::Sound(Some(JsonText::read(alloc, name)?))),
         None => Ok(Action::Sound(None)),
     }
 }
 
 fn is_on(tweak: &Json) -> bool
+    requires { is_valid tweak.now ≡ true }
     ensures { result ≡ is_on tweak.now }
 {
     match tweak.member("value") {
@@ -87,14 +91,5 @@ fn is_on(tweak: &Json) -> bool
 fn is_true(json: &Json) -> bool
     ensures { result ≡ is_true json.now }
 {
-    match json {
-        Json::Truth(truth) => *truth,
-        _ => false,
-    }
-}
-
-fn text_at<'a>(json: &'a Json, key: &str) -> Option<&'a str>
-    ensures { option_copied result ≡ text_at key.now json.now }
-{
-    json.member(key)?.as_text()
+    json.as_truth().unwrap_or(false)
 }

@@ -80,6 +80,7 @@ impl Actions {
 }
 
 fn read_each(alloc: Global, given: &[Json]) -> Result<Items<Action>, OutOfMemory>
+    requires { list_all is_valid given.now ≡ true }
     ensures { IfOk result (λ read. read ≡ map action_of given.now) }
 {
     let mut read = Items::new(alloc);

@@ -1,16 +1,13 @@
-ghost use Rattle.std.specs.Prelude.{◌≡◌, ◌↔◌, true, All, IfOk, IsTrue};
-ghost use Rattle.std.specs.List.{list_all};
+ghost use Rattle.std.specs.Prelude.{◌≡◌, ◌↔◌, All, IfOk, IsTrue};
 ghost use Rattle.std.specs.Option.{option_copied};
-ghost use Rattle.mx_json.specs.Gives.{Gives};
-ghost use Rattle.mx_json.specs.Json.{is_valid};
 ghost use Rattle.mx_cond.specs.Facts.{told_by};
 ghost use Rattle.mx_cond.specs.Holds.{Holds};
-ghost use Rattle.mx_rule.specs.Rule.{conditions_of, pattern_of, read_conditions, Meets};
+ghost use Rattle.mx_rule.specs.Rule.{conditions_of, pattern_of, Meets};
 
 use crate::pattern::Pattern;
-use mx_cond::{Condition, ConditionError, Facts};
+use mx_cond::{Condition, Facts};
 use mx_glob::Scratch;
-use mx_json::{Json, OutOfMemory};
+use mx_json::OutOfMemory;
 use sqlite_items::Items;
 use std::alloc::Global;
 
@@ -28,25 +25,6 @@ pub enum Criterion {
 }
 
 impl Criterion {
-    /// The criterion of a rule with these conditions.
-    ///
-    /// # Errors
-    ///
-    /// `BadCondition` exactly where one of the values is no condition, and `OutOfMemory`.
-    pub fn read_conditions(alloc: Global, given: &[Json]) -> Result<Criterion, ConditionError>
-        requires { list_all is_valid given.now ≡ true }
-        ensures { Gives ConditionError.OutOfMemory result (read_conditions given.now) }
-    {
-        let mut conditions = Items::new(alloc);
-        for json in given {
-            let condition = Condition::from_json(alloc, json)?;
-            if conditions.push(condition).is_err() {
-                return Err(ConditionError::OutOfMemory);
-            }
-        }
-        Ok(Criterion::Conditions(conditions))
-    }
-
     /// The conditions of an override or underride rule, in the order given; empty for other kinds.
     pub fn conditions(&self) -> &[Condition]
         ensures { result.now ≡ conditions_of self.now }
