@@ -1,16 +1,13 @@
 -- The conditions and actions of the table are valid JSON, and its conditions are conditions.
-use Rattle.std.proofs.Common.{◌≡◌, ◌∙◌, ℕ, nat_lt, Bool, true, false, not, List, [], ◌∷◌, ◌&&◌, map, length, codes, Some, is_some, option_map, option_and_then, Ok, Err, if◌then◌else◌, refl, sym, ap, ap₂, subst, rules, arith}
+use Rattle.std.proofs.Common.{◌≡◌, ◌∙◌, ℕ, nat_lt, Bool, true, false, not, List, [], ◌∷◌, length, codes, Some, is_some, option_map, option_and_then, Ok, Err, if◌then◌else◌, refl, sym, ap, ap₂, subst, rules}
 use Rattle.std.specs.List.{list_all}
-use Rattle.std.specs.Str.{is_utf8, IsAscii}
-use Rattle.std.proofs.lemmas.Str.{is_utf8-from_IsUtf8, IsUtf8-from_ascii}
-use Rattle.std.proofs.lemmas.Str.Ascii.{IsAscii-cons, IsAscii-nil}
+use Rattle.std.specs.Str.{is_utf8}
 use Rattle.std.specs.Result.{result_ok}
-use Rattle.std.proofs.lemmas.Bool.{and_from, and_parts, ltb-true}
+use Rattle.std.proofs.lemmas.Bool.{and_from, and_parts}
 use Rattle.mx_json.specs.declared.value.Json.{Json, Truth, Text, Object, the_lemmas}
 use Rattle.mx_json.specs.Folded.{folded}
-use Rattle.mx_json.specs.Json.{depth_of, is_valid, member, member_in, text_at, text_of}
-use Rattle.mx_json.specs.Utf8.{has_utf8}
-use Rattle.mx_json.proofs.JsonLemmas.{has_utf8-Object, has_utf8-Text, is_valid-Text, is_valid_from, with_value}
+use Rattle.mx_json.specs.Json.{is_valid, member, member_in, text_at, text_of}
+use Rattle.mx_json.proofs.ObjectLemmas.{is_fit, is_fit-Text, is_fit-Truth, is_utf8-ascii, is_valid-ascii, is_valid-Object}
 use Rattle.mx_json.specs.Path.{segments}
 use Rattle.mx_glob.specs.Reading.{reading}
 use Rattle.mx_glob.specs.declared.error.GlobError.TheVariants.{PatternTooLong}
@@ -28,100 +25,69 @@ use Rattle.mx_defaults.specs.Row.{action_of, actions_of, are_sayable, condition_
 
 -- ---- validity
 
-IsAscii-text : (text : List ℕ) → is_ascii_text text ≡ true → IsAscii text
-IsAscii-text [] is = IsAscii-nil
-IsAscii-text (byte ∷ text) is =
-    let parts = and_parts (nat_lt byte 128) (is_ascii_text text) is in
-    IsAscii-cons byte text (ltb-true _ _ parts.0) (IsAscii-text text parts.1)
+-- a pair of an ASCII key, and a text
+member-text : (key text : List ℕ) → is_ascii_text key ≡ true → is_utf8 text ≡ true → is_fit (key, Text text) ≡ true
+member-text key text is utf8 = is_fit-Text key text (is_utf8-ascii key is) utf8
 
-ascii : (text : List ℕ) → is_ascii_text text ≡ true → is_utf8 text ≡ true
-ascii text is = is_utf8-from_IsUtf8 text (IsUtf8-from_ascii text (IsAscii-text text is))
+-- of an ASCII key, and an ASCII text
+member-ascii : (key text : List ℕ) → is_ascii_text key ≡ true → is_ascii_text text ≡ true → is_fit (key, Text text) ≡ true
+member-ascii key text is text_is = member-text key text is (is_utf8-ascii text text_is)
 
-abbrev has_texts : List ℕ × Json → Bool
-has_texts pair = is_utf8 pair.0 && has_utf8 pair.1
-
-texts-of-pairs : (pairs : List (List ℕ × Json)) → list_all has_texts pairs ≡ true → list_all (λ pair. is_utf8 pair.0 && pair.1) (map (with_value has_utf8) pairs) ≡ true
-texts-of-pairs [] is = refl
-texts-of-pairs (pair ∷ pairs) is =
-    let parts = and_parts (has_texts pair) (list_all has_texts pairs) is in
-    and_from _ _ parts.0 (texts-of-pairs pairs parts.1)
-
-texts-of : (pairs : List (List ℕ × Json)) → list_all has_texts pairs ≡ true → has_utf8 (Object record { pairs = pairs }) ≡ true
-texts-of pairs is = has_utf8-Object record { pairs = pairs } ∙ texts-of-pairs pairs is
-
--- an ASCII key, and a text
-member-text : (key text : List ℕ) → is_ascii_text key ≡ true → is_utf8 text ≡ true → has_texts (key, Text text) ≡ true
-member-text key text is utf8 = and_from _ _ (ascii key is) (has_utf8-Text text ∙ utf8)
-
--- an ASCII key, and an ASCII text
-member-ascii : (key text : List ℕ) → is_ascii_text key ≡ true → is_ascii_text text ≡ true → has_texts (key, Text text) ≡ true
-member-ascii key text is text_is = member-text key text is (ascii text text_is)
-
-one-has : (a : List ℕ × Json) → has_texts a ≡ true → list_all has_texts (a ∷ []) ≡ true
+one-has : (a : List ℕ × Json) → is_fit a ≡ true → list_all is_fit (a ∷ []) ≡ true
 one-has a is = and_from _ _ is refl
 
-two-have : (a b : List ℕ × Json) → has_texts a ≡ true → has_texts b ≡ true → list_all has_texts (a ∷ b ∷ []) ≡ true
+two-have : (a b : List ℕ × Json) → is_fit a ≡ true → is_fit b ≡ true → list_all is_fit (a ∷ b ∷ []) ≡ true
 two-have a b one two = and_from _ _ one (one-has b two)
 
-three-have : (a b c : List ℕ × Json) → has_texts a ≡ true → has_texts b ≡ true → has_texts c ≡ true → list_all has_texts (a ∷ b ∷ c ∷ []) ≡ true
+three-have : (a b c : List ℕ × Json) → is_fit a ≡ true → is_fit b ≡ true → is_fit c ≡ true → list_all is_fit (a ∷ b ∷ c ∷ []) ≡ true
 three-have a b c one two three = and_from _ _ one (two-have b c two three)
 
 match-valid : (key pattern : List ℕ) → is_ascii_text key ≡ true → is_utf8 pattern ≡ true → is_valid (event_match key pattern) ≡ true
 match-valid key pattern k p =
-    let depth : depth_of (event_match key pattern) ≡ 1 = search (rules, the_lemmas) in
     let has = three-have _ _ _ (member-ascii (codes "key") key refl k) (member-ascii (codes "kind") (codes "event_match") refl refl) (member-text (codes "pattern") pattern refl p) in
-    is_valid_from (event_match key pattern) (search (rules, the_lemmas)) (texts-of _ has) (omega (arith, depth))
+    is_valid-Object _ refl has
 
 contains-valid : (key text : List ℕ) → is_ascii_text key ≡ true → is_utf8 text ≡ true → is_valid (event_property_contains key (Text text)) ≡ true
 contains-valid key text k t =
-    let depth : depth_of (event_property_contains key (Text text)) ≡ 1 = search (rules, the_lemmas) in
     let has = three-have _ _ _ (member-ascii (codes "key") key refl k) (member-ascii (codes "kind") (codes "event_property_contains") refl refl) (member-text (codes "value") text refl t) in
-    is_valid_from (event_property_contains key (Text text)) (search (rules, the_lemmas)) (texts-of _ has) (omega (arith, depth))
+    is_valid-Object _ refl has
 
 is_text-valid : (key text : List ℕ) → is_ascii_text key ≡ true → is_utf8 text ≡ true → is_valid (event_property_is key (Text text)) ≡ true
 is_text-valid key text k t =
-    let depth : depth_of (event_property_is key (Text text)) ≡ 1 = search (rules, the_lemmas) in
     let has = three-have _ _ _ (member-ascii (codes "key") key refl k) (member-ascii (codes "kind") (codes "event_property_is") refl refl) (member-text (codes "value") text refl t) in
-    is_valid_from (event_property_is key (Text text)) (search (rules, the_lemmas)) (texts-of _ has) (omega (arith, depth))
-
-has_utf8-true : has_utf8 (Truth true) ≡ true
-has_utf8-true = search (rules, the_lemmas)
+    is_valid-Object _ refl has
 
 is_true-valid : (key : List ℕ) → is_ascii_text key ≡ true → is_valid (event_property_is key (Truth true)) ≡ true
 is_true-valid key k =
-    let depth : depth_of (event_property_is key (Truth true)) ≡ 1 = search (rules, the_lemmas) in
-    let value : has_texts (codes "value", Truth true) ≡ true = and_from _ _ (ascii (codes "value") refl) has_utf8-true in
+    let value = is_fit-Truth (codes "value") true (is_utf8-ascii (codes "value") refl) in
     let has = three-have _ _ _ (member-ascii (codes "key") key refl k) (member-ascii (codes "kind") (codes "event_property_is") refl refl) value in
-    is_valid_from (event_property_is key (Truth true)) (search (rules, the_lemmas)) (texts-of _ has) (omega (arith, depth))
+    is_valid-Object _ refl has
 
 count-valid : (number : List ℕ) → is_ascii_text number ≡ true → is_valid (room_member_count number) ≡ true
 count-valid number n =
-    let depth : depth_of (room_member_count number) ≡ 1 = search (rules, the_lemmas) in
     let has = two-have _ _ (member-ascii (codes "is") number refl n) (member-ascii (codes "kind") (codes "room_member_count") refl refl) in
-    is_valid_from (room_member_count number) (search (rules, the_lemmas)) (texts-of _ has) (omega (arith, depth))
+    is_valid-Object _ refl has
 
 may_notify_room-valid : is_valid may_notify_room ≡ true
 may_notify_room-valid =
-    let depth : depth_of may_notify_room ≡ 1 = search (rules, the_lemmas) in
     let has = two-have _ _ (member-ascii (codes "key") (codes "room") refl refl) (member-ascii (codes "kind") (codes "sender_notification_permission") refl refl) in
-    is_valid_from may_notify_room (search (rules, the_lemmas)) (texts-of _ has) (omega (arith, depth))
+    is_valid-Object _ refl has
 
 display_name-valid : is_valid contains_display_name ≡ true
 display_name-valid =
-    let depth : depth_of contains_display_name ≡ 1 = search (rules, the_lemmas) in
     let has = one-has _ (member-ascii (codes "kind") (codes "contains_display_name") refl refl) in
-    is_valid_from contains_display_name (search (rules, the_lemmas)) (texts-of _ has) (omega (arith, depth))
+    is_valid-Object _ refl has
 
 pub condition_of-valid : (owner : List ℕ) (asked : Asked) → is_utf8 owner ≡ true → is_readable owner asked ≡ true → is_valid (condition_of owner asked) ≡ true
 condition_of-valid owner (Matches key pattern) utf8 is =
     let parts = and_parts (is_ascii_text key.now) (is_ascii_text pattern.now) (and_parts (is_short pattern.now) _ is).1 in
-    match-valid key.now pattern.now parts.0 (ascii pattern.now parts.1)
+    match-valid key.now pattern.now parts.0 (is_utf8-ascii pattern.now parts.1)
 condition_of-valid owner (MatchesOwner key) utf8 is =
     match-valid key.now owner (and_parts (is_short owner) (is_ascii_text key.now) is).1 utf8
 condition_of-valid owner (ContainsOwner key) utf8 is = contains-valid key.now owner is utf8
 condition_of-valid owner (IsText key text) utf8 is =
     let parts = and_parts (is_ascii_text key.now) (is_ascii_text text.now) is in
-    is_text-valid key.now text.now parts.0 (ascii text.now parts.1)
+    is_text-valid key.now text.now parts.0 (is_utf8-ascii text.now parts.1)
 condition_of-valid owner (IsTrue key) utf8 is = is_true-valid key.now is
 condition_of-valid owner (Members number) utf8 is = count-valid number.now is
 condition_of-valid owner MayNotifyRoom utf8 is = may_notify_room-valid
@@ -129,18 +95,16 @@ condition_of-valid owner NamesOwner utf8 is = display_name-valid
 
 sound-valid : (name : List ℕ) → is_ascii_text name ≡ true → is_valid (sound name) ≡ true
 sound-valid name n =
-    let depth : depth_of (sound name) ≡ 1 = search (rules, the_lemmas) in
     let has = two-have _ _ (member-ascii (codes "set_tweak") (codes "sound") refl refl) (member-ascii (codes "value") name refl n) in
-    is_valid_from (sound name) (search (rules, the_lemmas)) (texts-of _ has) (omega (arith, depth))
+    is_valid-Object _ refl has
 
 highlight-valid : is_valid highlight ≡ true
 highlight-valid =
-    let depth : depth_of highlight ≡ 1 = search (rules, the_lemmas) in
     let has = one-has _ (member-ascii (codes "set_tweak") (codes "highlight") refl refl) in
-    is_valid_from highlight (search (rules, the_lemmas)) (texts-of _ has) (omega (arith, depth))
+    is_valid-Object _ refl has
 
 action_of-valid : (does : Does) → is_sayable does ≡ true → is_valid (action_of does) ≡ true
-action_of-valid Notify is = is_valid-Text (codes "notify") (IsUtf8-from_ascii _ (IsAscii-text (codes "notify") refl))
+action_of-valid Notify is = is_valid-ascii (codes "notify") refl
 action_of-valid (Sound name) is = sound-valid name.now is
 action_of-valid Highlight is = highlight-valid
 

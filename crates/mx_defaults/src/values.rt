@@ -1,6 +1,6 @@
 //! The JSON of the table's conditions and actions.
 
-ghost use Rattle.std.specs.Prelude.{◌≡◌, [], ◌∷◌, ◌++◌, map, codes, IfOk, OnOk};
+ghost use Rattle.std.specs.Prelude.{◌≡◌, [], ◌∷◌, map, codes, IfOk};
 ghost use Rattle.mx_json.specs.declared.value.Json.{Text, Object};
 ghost use Rattle.mx_defaults.specs.Row.{action_of, actions_of, condition_of};
 
@@ -82,11 +82,11 @@ fn keyed(alloc: Global, key: &str, kind: &str, name: &str, value: Json) -> Resul
           (codes "key", Text key.now) ∷ (codes "kind", Text kind.now) ∷ (name.now, value) ∷ [];
     }) }
 {
-    let mut pairs = Items::new(alloc);
-    put(alloc, &mut pairs, "key", text(alloc, key)?)?;
-    put(alloc, &mut pairs, "kind", text(alloc, kind)?)?;
-    put(alloc, &mut pairs, name, value)?;
-    Ok(Json::Object(JsonObject { pairs }))
+    let object = JsonObject::new(alloc)
+        .with(alloc, "key", text(alloc, key)?)?
+        .with(alloc, "kind", text(alloc, kind)?)?
+        .with(alloc, name, value)?;
+    Ok(Json::Object(object))
 }
 
 // An object whose members are texts.
@@ -96,22 +96,9 @@ fn texts(alloc: Global, members: &[(&str, &str)]) -> Result<Json, OutOfMemory>
           map (λ member. (member.0.now, Text member.1.now)) members.now;
     }) }
 {
-    let mut pairs = Items::new(alloc);
+    let mut object = JsonObject::new(alloc);
     for (key, value) in members {
-        put(alloc, &mut pairs, key, text(alloc, value)?)?;
+        object = object.with(alloc, key, text(alloc, value)?)?;
     }
-    Ok(Json::Object(JsonObject { pairs }))
-}
-
-fn put(
-    alloc: Global,
-    pairs: &mut Items<(JsonText, Json)>,
-    key: &str,
-    value: Json,
-) -> Result<(), OutOfMemory>
-    ensures { OnOk result (pairs.new ≡ pairs.old ++ (key.now, value) ∷ []) }
-{
-    let key = JsonText::read(alloc, key)?;
-    pairs.push((key, value))?;
-    Ok(())
+    Ok(Json::Object(object))
 }
