@@ -1,9 +1,10 @@
 -- What logged calls changed, with one more.
 use Rattle.std.proofs.Common.{◌≡◌, ℕ, ◌+◌, ◌≤◌, List, [], ◌∷◌, ◌++◌, length, take, drop, ◌<◌, refl, ap, sym, subst, ◌∙◌, arith}
 use Rattle.std.proofs.lemmas.List.{length-take, length-drop, take-append-le, drop-append-le, take_all}
+use Rattle.mx_outside.specs.Budget.{Covers}
 use Rattle.mx_outside.specs.Changes.{Change}
 use Rattle.mx_outside.specs.Changes.Change.{written, cut_to, synced}
-use Rattle.mx_outside.specs.DiskLog.{Log, HasLogRoom, changes_after, logged_bytes, written_bytes}
+use Rattle.mx_outside.specs.DiskLog.{Log, log_budget, changes_after, logged_bytes, written_bytes}
 use Rattle.mx_outside.specs.declared.disk_log.Logged.{Logged}
 use Rattle.mx_outside.specs.declared.disk_log.Logged.TheVariants as logged
 
@@ -76,20 +77,20 @@ logged_bytes-append (logged.Written to count ∷ calls) more =
 logged_bytes-append (logged.Cut m ∷ calls) more = logged_bytes-append calls more
 logged_bytes-append (logged.Synced ∷ calls) more = logged_bytes-append calls more
 
--- The room of a log, told of what it holds.
-pub record Room (calls : List Logged) (bytes : List ℕ) (byte_room call_room count : ℕ) : Type 0 where
-  pub bytes_fit : length bytes + count ≤ byte_room
-  pub calls_fit : length calls < call_room
+-- What a log has memory for, told of what it holds.
+pub record Fits (calls : List Logged) (bytes : List ℕ) (byte_capacity call_capacity count : ℕ) : Type 0 where
+  pub bytes_fit : length bytes + count ≤ byte_capacity
+  pub calls_fit : length calls < call_capacity
 
-pub room_from : (calls : List Logged) (bytes : List ℕ) (byte_room call_room count : ℕ) (log : Log) → record { changes = changes_after [] calls bytes; byte_room = byte_room; call_room = call_room } ≡ log → length bytes ≡ logged_bytes calls → HasLogRoom log count → Room calls bytes byte_room call_room count
-room_from calls bytes byte_room call_room count log is all room =
+pub covered_fits : (calls : List Logged) (bytes : List ℕ) (byte_capacity call_capacity count : ℕ) (log : Log) → record { changes = changes_after [] calls bytes; byte_capacity = byte_capacity; call_capacity = call_capacity } ≡ log → length bytes ≡ logged_bytes calls → length bytes ≤ byte_capacity → Covers (log_budget log) count → Fits calls bytes byte_capacity call_capacity count
+covered_fits calls bytes byte_capacity call_capacity count log is all held covers =
     let some = written_bytes-changes_after [] calls bytes all in
     let many = length-changes_after [] calls bytes in
-    let told = subst (λ (l : Log). HasLogRoom l count) (sym is) room in
+    let told = subst (λ (l : Log). Covers (log_budget l) count) (sym is) covers in
     record { bytes_fit = omega arith; calls_fit = omega arith }
 
-pub has_room : (calls : List Logged) (bytes : List ℕ) (byte_room call_room count : ℕ) → length bytes ≡ logged_bytes calls → Room calls bytes byte_room call_room count → HasLogRoom (record { changes = changes_after [] calls bytes; byte_room = byte_room; call_room = call_room }) count
-has_room calls bytes byte_room call_room count all room =
+pub fits_covered : (calls : List Logged) (bytes : List ℕ) (byte_capacity call_capacity count : ℕ) → length bytes ≡ logged_bytes calls → Fits calls bytes byte_capacity call_capacity count → Covers (log_budget (record { changes = changes_after [] calls bytes; byte_capacity = byte_capacity; call_capacity = call_capacity })) count
+fits_covered calls bytes byte_capacity call_capacity count all fits =
     let some = written_bytes-changes_after [] calls bytes all in
     let many = length-changes_after [] calls bytes in
     record { bytes = omega arith; calls = omega arith }

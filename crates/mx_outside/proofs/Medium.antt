@@ -1,12 +1,13 @@
 -- One more change of a disk in memory.
-use Rattle.std.proofs.Common.{◌≡◌, ℕ, zero, suc, ◌+◌, ◌≤◌, List, [], ◌∷◌, length, drop, ap, sym, subst, inl, inr, ◌⊎◌, arith}
+use Rattle.std.proofs.Common.{◌≡◌, ℕ, zero, suc, ◌+◌, ◌≤◌, List, [], ◌∷◌, length, drop, max, ap, sym, ◌∙◌, subst, inl, inr, ◌⊎◌, arith}
 use Rattle.std.proofs.lemmas.List.{length-take}
+use Rattle.mx_outside.specs.Budget.{Covers}
 use Rattle.mx_outside.specs.Disk.{NoMore, Elapses}
 use Rattle.mx_outside.specs.Changes.{Change, content_of, AreChanges, MayLeave}
 use Rattle.mx_outside.specs.Changes.Change.{written, cut_to, synced}
 use Rattle.mx_outside.specs.DiskImage.{Image}
 use Rattle.mx_outside.specs.DiskLog.{Log, written_bytes}
-use Rattle.mx_outside.specs.MemoryDisk.{Medium, content_now, MayLeaveNow, moment_of, LeftSince, HasRoomFor, changed, IsKept}
+use Rattle.mx_outside.specs.MemoryDisk.{Medium, content_now, MayLeaveNow, moment_of, LeftSince, budget_of, changed, HoldsMedium}
 use Rattle.mx_outside.proofs.Torn.{length-put_at}
 use Rattle.mx_outside.proofs.Changes.{leaves_content}
 
@@ -48,10 +49,11 @@ content_bound (cut_to n ∷ earlier) first are =
     omega arith
 content_bound (synced ∷ earlier) first are = content_bound earlier first are
 
--- A write within the room ends within the memory that was promised for the content.
-pub room_for : (first : List ℕ) (image : Image) (log : Log) (disk : Medium) (at count : ℕ) → IsKept first image log disk.byte_room disk.call_room → first ≡ disk.first → log.changes ≡ disk.changes → at ≤ length (content_now disk) → HasRoomFor disk count → at + count ≤ image.room
-room_for first image log disk at count kept from change within room =
+-- A write within the budget ends within the memory that was taken for the content, or within what is held.
+pub covered_end : (first : List ℕ) (image : Image) (log : Log) (disk : Medium) (at count : ℕ) → HoldsMedium first image log disk.byte_capacity disk.call_capacity → first ≡ disk.first → log.changes ≡ disk.changes → at ≤ length (content_now disk) → Covers (budget_of disk) count → at + count ≤ max image.capacity (length image.content)
+covered_end first image log disk at count kept from change within covers =
     let are : AreChanges disk.changes disk.first = subst (λ (f : List ℕ). AreChanges disk.changes f) from (subst (λ (c : List Change). AreChanges c first) change kept.are) in
     let bound = content_bound disk.changes disk.first are in
     let same : length first ≡ length disk.first = ap (λ (f : List ℕ). length f) from in
+    let held : length image.content ≡ length (content_now disk) = ap (λ (c : List ℕ). length c) (kept.content ∙ ap (λ (c : List Change). content_of c first) change ∙ ap (λ (f : List ℕ). content_of disk.changes f) from) in
     omega arith

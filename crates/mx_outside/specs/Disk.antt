@@ -1,5 +1,6 @@
 -- What a call of a disk does to what a read gives and to the images that a crash may leave: ours.
-use Rattle.std.specs.Prelude.{◌≡◌, ℕ, ◌+◌, ◌≤◌, max, min, List, ◌++◌, length, take, drop, Result, MatchResult, OnOk, ◌⊎◌, ◌↔◌}
+use Rattle.std.specs.Prelude.{◌≡◌, ℕ, ◌+◌, ◌≤◌, max, min, List, ◌++◌, length, take, drop, Result, MatchResult, OnOk, OnErr, ◌⊎◌, ◌↔◌}
+use Rattle.mx_outside.specs.Told.{Rose}
 
 -- A list with a piece put over what stood from this place on.
 abbrev pub put_at : {A : Type 0} → ℕ → List A → List A → List A
@@ -50,6 +51,12 @@ SameImages old new = (image : List ℕ) → new image ↔ old image
 -- A crash leaves this content and nothing else.
 abbrev pub Only : List ℕ → (List ℕ → Type 0) → Type 0
 Only content may_leave = (image : List ℕ) → may_leave image → image ≡ content
+
+-- A call that failed raised the count of faults, and any other left it as it was.
+pub record CountsFaults {A E : Type 0} (result : Result A E) (before now : ℕ) : Type 0 where
+  pub count : before ≤ now
+  pub failed : OnErr result (Rose before now)
+  pub steady : OnOk result (now ≡ before)
 
 -- Time goes on: a crash since t might have left what it might have left before, or what it may leave now.
 pub record Elapses (before now : ℕ) (past since : ℕ → List ℕ → Type 0) (may_leave : List ℕ → Type 0) : Type 0 where

@@ -8,7 +8,7 @@ pub record Image : Type 0 where
   pub content : List ℕ
   pub synced : List ℕ
   pub fresh : List Bool
-  pub room : ℕ
+  pub capacity : ℕ
 
 -- A piece was written at a place.
 abbrev pub image_written : Image → ℕ → List ℕ → Image
@@ -30,15 +30,15 @@ image_synced image =
 -- There is a mark for each byte, and memory for all of it.
 pub record IsWhole (image : Image) : Type 0 where
   pub marks : length image.fresh ≡ length image.content
-  pub content : length image.content ≤ image.room
+  pub content : length image.content ≤ image.capacity
 
--- The room is within what was taken for each of the three.
-pub record Rooms (room content_room synced_room fresh_room : ℕ) : Type 0 where
-  pub content : room ≤ content_room
-  pub synced : room ≤ synced_room
-  pub fresh : room ≤ fresh_room
+-- The capacity is within what was taken for each of the three.
+pub record Capacities (capacity content_capacity synced_capacity fresh_capacity : ℕ) : Type 0 where
+  pub content : capacity ≤ content_capacity
+  pub synced : capacity ≤ synced_capacity
+  pub fresh : capacity ≤ fresh_capacity
 
 -- This content, all of it synced, with memory for so many bytes.
 abbrev pub image_first : List ℕ → ℕ → Image
-image_first content room =
-    record { content = content; synced = content; fresh = replicate (length content) false; room = room }
+image_first content capacity =
+    record { content = content; synced = content; fresh = replicate (length content) false; capacity = capacity }

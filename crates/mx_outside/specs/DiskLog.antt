@@ -1,5 +1,6 @@
 -- How a disk in memory keeps what its calls changed: ours.
-use Rattle.std.specs.Prelude.{ℕ, ◌+◌, ◌<◌, ◌≤◌, List, [], ◌∷◌, length, take, drop}
+use Rattle.std.specs.Prelude.{ℕ, ◌+◌, ◌-◌, ◌≤◌, List, [], ◌∷◌, length, take, drop}
+use Rattle.mx_outside.specs.Budget.{Budget}
 use Rattle.mx_outside.specs.Changes.{Change}
 use Rattle.mx_outside.specs.Changes.Change.{written, cut_to, synced}
 use Rattle.mx_outside.specs.declared.disk_log.Logged.{Logged}
@@ -8,8 +9,8 @@ use Rattle.mx_outside.specs.declared.disk_log.Logged.TheVariants as logged
 -- What was changed, the newest first, and for how many written bytes and calls there is memory.
 pub record Log : Type 0 where
   pub changes : List Change
-  pub byte_room : ℕ
-  pub call_room : ℕ
+  pub byte_capacity : ℕ
+  pub call_capacity : ℕ
 
 -- What these calls changed after earlier changes, the bytes that they wrote standing one after another.
 abbrev pub changes_after : List Change → List Logged → List ℕ → List Change
@@ -33,12 +34,15 @@ written_bytes (written at piece ∷ earlier) = length piece + written_bytes earl
 written_bytes (cut_to n ∷ earlier) = written_bytes earlier
 written_bytes (synced ∷ earlier) = written_bytes earlier
 
--- There is memory for one more change that writes so many bytes.
-pub record HasLogRoom (log : Log) (count : ℕ) : Type 0 where
-  pub bytes : written_bytes log.changes + count ≤ log.byte_room
-  pub calls : length log.changes < log.call_room
+-- What its memory leaves.
+abbrev pub log_budget : Log → Budget
+log_budget log =
+    record {
+      bytes = log.byte_capacity - written_bytes log.changes;
+      calls = log.call_capacity - length log.changes;
+    }
 
 -- The memory that there is stays.
-pub record KeepsLogRoom (old new : Log) : Type 0 where
-  pub bytes : old.byte_room ≤ new.byte_room
-  pub calls : old.call_room ≤ new.call_room
+pub record KeepsLogCapacity (old new : Log) : Type 0 where
+  pub bytes : old.byte_capacity ≤ new.byte_capacity
+  pub calls : old.call_capacity ≤ new.call_capacity

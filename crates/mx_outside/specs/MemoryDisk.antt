@@ -1,6 +1,7 @@
 -- A disk in memory, which keeps what its calls changed: ours.
-use Rattle.std.specs.Prelude.{◌≡◌, ℕ, ◌+◌, ◌^◌, ◌<◌, ◌≤◌, List, [], ◌∷◌, length, drop, Result, MatchResult}
+use Rattle.std.specs.Prelude.{◌≡◌, ℕ, ◌+◌, ◌-◌, ◌^◌, ◌<◌, ◌≤◌, List, [], ◌∷◌, length, drop, Result, MatchResult}
 use Rattle.mx_outside.specs.Told.{raised}
+use Rattle.mx_outside.specs.Budget.{Budget}
 use Rattle.mx_outside.specs.Changes.{Change, content_of, synced_of, fresh_of, filled, AreChanges, MayLeave}
 use Rattle.mx_outside.specs.DiskLog.{Log, written_bytes}
 use Rattle.mx_outside.specs.DiskImage.{Image}
@@ -12,8 +13,8 @@ use Rattle.mx_outside.specs.declared.fill.Fill.TheVariants as fill
 pub record Medium : Type 0 where
   pub first : List ℕ
   pub changes : List Change
-  pub byte_room : ℕ
-  pub call_room : ℕ
+  pub byte_capacity : ℕ
+  pub call_capacity : ℕ
   pub faults : ℕ
 
 -- What a read gives now.
@@ -34,10 +35,13 @@ pub record LeftSince (disk : Medium) (moment : ℕ) (image : List ℕ) : Type 0 
   pub since : moment + ago ≤ length disk.changes
   pub left : MayLeave (drop ago disk.changes) disk.first image
 
--- There is memory for one more change that writes so many bytes.
-pub record HasRoomFor (disk : Medium) (count : ℕ) : Type 0 where
-  pub bytes : written_bytes disk.changes + count ≤ disk.byte_room
-  pub calls : length disk.changes < disk.call_room
+-- What its memory leaves.
+abbrev pub budget_of : Medium → Budget
+budget_of disk =
+    record {
+      bytes = disk.byte_capacity - written_bytes disk.changes;
+      calls = disk.call_capacity - length disk.changes;
+    }
 
 -- The disk after one more change.
 abbrev pub changed : Medium → Change → Medium
@@ -60,18 +64,18 @@ left_by fill.New disk = content_now disk
 left_by fill.Zeros disk = filled 0 (fresh_of disk.changes disk.first) (content_now disk)
 left_by fill.Ones disk = filled 1 (fresh_of disk.changes disk.first) (content_now disk)
 
--- A disk that had this content first, with this room, nothing changed and no fault.
+-- A disk that had this content first, with this capacity, nothing changed and no fault.
 abbrev pub at_rest : List ℕ → ℕ → ℕ → Medium
 at_rest content bytes calls =
-    record { first = content; changes = []; byte_room = bytes; call_room = calls; faults = 0 }
+    record { first = content; changes = []; byte_capacity = bytes; call_capacity = calls; faults = 0 }
 
 -- What is held is what the changes made of the first content, and there is the memory that was promised.
-pub record IsKept (first : List ℕ) (image : Image) (log : Log) (bytes calls : ℕ) : Type 0 where
+pub record HoldsMedium (first : List ℕ) (image : Image) (log : Log) (bytes calls : ℕ) : Type 0 where
   pub content : image.content ≡ content_of log.changes first
   pub synced_then : image.synced ≡ synced_of log.changes first
   pub fresh : image.fresh ≡ fresh_of log.changes first
   pub are : AreChanges log.changes first
-  pub byte_room : bytes ≤ log.byte_room
-  pub call_room : calls ≤ log.call_room
-  pub image_room : length first + bytes ≤ image.room
+  pub byte_capacity : bytes ≤ log.byte_capacity
+  pub call_capacity : calls ≤ log.call_capacity
+  pub image_capacity : length first + bytes ≤ image.capacity
   pub bounded : length image.content < 2 ^ 63

@@ -10,12 +10,12 @@ pub(crate) struct DiskImage {
     content: Vec<u8>,
     synced: Vec<u8>,
     fresh: Vec<bool>,
-    room: usize,
+    capacity: usize,
 }
 
 impl Model for DiskImage {
     ghost use Rattle.std.specs.Prelude.{◌≤◌, vec_capacity};
-    ghost use Rattle.mx_outside.specs.DiskImage.{Image, IsWhole, Rooms};
+    ghost use Rattle.mx_outside.specs.DiskImage.{Image, IsWhole, Capacities};
 
     ghost Value = { Image };
 
@@ -23,21 +23,21 @@ impl Model for DiskImage {
       content = i.content.items;
       synced = i.synced.items;
       fresh = i.fresh.items;
-      room = i.room;
+      capacity = i.capacity;
     } };
 
     ghost invariant = { λ i. IsWhole (record {
       content = i.content.items;
       synced = i.synced.items;
       fresh = i.fresh.items;
-      room = i.room;
-    }) × Rooms i.room (vec_capacity i.content) (vec_capacity i.synced) (vec_capacity i.fresh) };
+      capacity = i.capacity;
+    }) × Capacities i.capacity (vec_capacity i.content) (vec_capacity i.synced) (vec_capacity i.fresh) };
 }
 
 /// Puts the piece over what stands from `at` on, where there is memory for it.
 fn put_piece(bytes: &mut Vec<u8>, at: usize, piece: &[u8])
     requires place { at ≤ vec_len bytes.old }
-    requires room { at + length piece.now ≤ vec_capacity bytes.old }
+    requires fits { at + length piece.now ≤ vec_capacity bytes.old }
     ensures items { bytes.new.items ≡ put_at at piece.now bytes.old.items }
     ensures capacity { vec_capacity bytes.old ≤ vec_capacity bytes.new }
 {
@@ -53,7 +53,7 @@ fn put_piece(bytes: &mut Vec<u8>, at: usize, piece: &[u8])
 /// Marks so many bytes from `at` on, where there is memory for the marks.
 fn mark(marks: &mut Vec<bool>, at: usize, count: usize)
     requires place { at ≤ vec_len marks.old }
-    requires room { at + count ≤ vec_capacity marks.old }
+    requires fits { at + count ≤ vec_capacity marks.old }
     ensures items { marks.new.items ≡ put_at at (replicate count true) marks.old.items }
     ensures capacity { vec_capacity marks.old ≤ vec_capacity marks.new }
 {
@@ -67,13 +67,13 @@ fn mark(marks: &mut Vec<bool>, at: usize, count: usize)
 }
 
 /// Takes memory for so many items in all.
-fn reserve_to<T>(items: &mut Vec<T>, room: usize) -> Result<(), AllocError>
+fn reserve_to<T>(items: &mut Vec<T>, capacity: usize) -> Result<(), AllocError>
     ensures items { items.new.items ≡ items.old.items }
-    ensures room { OnOk result (room ≤ vec_capacity items.new) }
+    ensures reserved { OnOk result (capacity ≤ vec_capacity items.new) }
     ensures capacity { vec_capacity items.old ≤ vec_capacity items.new }
-    ensures within { room ≤ vec_capacity items.old → IsOk result }
+    ensures within { capacity ≤ vec_capacity items.old → IsOk result }
 {
-    items.reserve(room.saturating_sub(items.len()))
+    items.reserve(capacity.saturating_sub(items.len()))
 }
 
 impl DiskImage {
@@ -84,20 +84,20 @@ impl DiskImage {
     pub fn new(alloc: Global, content: &[u8], more: usize) -> Result<DiskImage, AllocError>
         ensures { IfOk result (λ image. image ≡ image_first content.now (length content.now + more)) }
     {
-        let Some(room) = content.len().checked_add(more) else {
+        let Some(capacity) = content.len().checked_add(more) else {
             return Err(AllocError);
         };
-        let mut held = Vec::with_capacity(alloc, room)?;
+        let mut held = Vec::with_capacity(alloc, capacity)?;
         held.extend_from_slice(content)?;
-        let mut synced = Vec::with_capacity(alloc, room)?;
+        let mut synced = Vec::with_capacity(alloc, capacity)?;
         synced.extend_from_slice(content)?;
-        let mut fresh = Vec::with_capacity(alloc, room)?;
+        let mut fresh = Vec::with_capacity(alloc, capacity)?;
         fresh.resize(content.len(), false)?;
         Ok(DiskImage {
             content: held,
             synced,
             fresh,
-            room,
+            capacity,
         })
     }
 
@@ -132,27 +132,27 @@ impl DiskImage {
         Ok(bytes)
     }
 
-    /// Takes memory for `room` bytes in all.
-    pub fn reserve(&mut self, room: usize) -> Result<(), AllocError>
-        ensures within { room ≤ self.old.room → IsOk result }
+    /// Takes memory for `capacity` bytes in all. What is held needs no more.
+    pub fn reserve(&mut self, capacity: usize) -> Result<(), AllocError>
+        ensures within { capacity ≤ max self.old.capacity (length self.old.content) → IsOk result }
         ensures reserves { MatchResult result
-            (λ _. self.new ≡ record self.old { room = max self.old.room room })
+            (λ _. self.new ≡ record self.old { capacity = max self.old.capacity capacity })
             (λ _. self.new ≡ self.old) }
     {
-        if room <= self.room {
+        if capacity <= self.capacity {
             return Ok(());
         }
-        reserve_to(&mut self.content, room)?;
-        reserve_to(&mut self.synced, room)?;
-        reserve_to(&mut self.fresh, room)?;
-        self.room = room;
+        reserve_to(&mut self.content, capacity)?;
+        reserve_to(&mut self.synced, capacity)?;
+        reserve_to(&mut self.fresh, capacity)?;
+        self.capacity = capacity;
         Ok(())
     }
 
     /// Writes a piece, where there is memory for it.
     pub fn write(&mut self, at: usize, piece: &[u8])
         requires place { at ≤ length self.old.content }
-        requires room { at + length piece.now ≤ self.old.room }
+        requires fits { at + length piece.now ≤ self.old.capacity }
         ensures { self.new ≡ image_written self.old at piece.now }
     {
         put_piece(&mut self.content, at, piece);

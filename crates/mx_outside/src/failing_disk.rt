@@ -1,4 +1,4 @@
-ghost use Rattle.std.specs.Prelude.{◌≡◌, ◌+◌, ◌^◌, ◌<◌, ◌≤◌, length, IfSome, IfOk, IsErr, OnOk, OnErr};
+ghost use Rattle.std.specs.Prelude.{◌≡◌, ◌+◌, ◌^◌, ◌<◌, ◌≤◌, length, IfSome, IfOk, IsOk, IsErr, OnOk, OnErr};
 
 use crate::disk::Disk;
 use crate::failing::FailingCalls;
@@ -45,9 +45,10 @@ impl<D> FailingDisk<D> {
 }
 
 impl<D: Disk> Disk for FailingDisk<D> {
-    ghost use Rattle.mx_outside.specs.Told.{WhereTold, Rose};
-    ghost use Rattle.mx_outside.specs.Disk.{Wrote, WasCut, IsRead, Torn, Shortened, Follows, NoMore, SameImages, Only, Elapses};
-    ghost use Rattle.mx_outside.specs.Failing.{FailsAsListed};
+    ghost use Rattle.mx_outside.specs.Told.{WhereTold};
+    ghost use Rattle.mx_outside.specs.Budget.{Covers, SpendsAtMost};
+    ghost use Rattle.mx_outside.specs.Disk.{Wrote, WasCut, IsRead, Torn, Shortened, Follows, NoMore, SameImages, Only, Elapses, CountsFaults};
+    ghost use Rattle.mx_outside.specs.Failing.{FailsAsListed, budget_below};
 
     ghost seen = { λ d. D.seen d.below };
 
@@ -59,20 +60,31 @@ impl<D: Disk> Disk for FailingDisk<D> {
 
     ghost faults = { λ d. d.faults + D.faults d.below };
 
+    ghost budget = { λ d. budget_below d.failing (D.budget d.below) };
+
     ghost same_disk = { λ old new. D.same_disk old.below new.below };
 
     /// Fails where the number of the call is listed, and else answers as the disk below. So do the
     /// other calls.
     fn len(&mut self) -> Result<u64, Failed>
-        ensures length { WhereTold (D.seen self.old.below) (D.seen self.new.below) (λ old _. IfOk result (λ n. n ≡ length old)) }
+        ensures length { WhereTold (D.seen self.old.below) (D.seen self.new.below)
+            (λ old _. IfOk result (λ n. n ≡ length old)) }
         ensures bounded { IfOk result (λ n. n < 2 ^ 63) }
-        ensures same { WhereTold (D.seen self.old.below) (D.seen self.new.below) (λ old new. new ≡ old) }
+        ensures same { WhereTold (D.seen self.old.below) (D.seen self.new.below)
+            (λ old new. new ≡ old) }
         ensures crash { SameImages (D.may_leave self.old.below) (D.may_leave self.new.below) }
-        ensures time { Elapses (D.moment self.old.below) (D.moment self.new.below) (D.left_since self.old.below) (D.left_since self.new.below) (D.may_leave self.new.below) }
+        ensures time { Elapses (D.moment self.old.below) (D.moment self.new.below)
+            (D.left_since self.old.below) (D.left_since self.new.below) (D.may_leave self.new.below) }
         ensures possible { OnOk result (IfSome (D.seen self.new.below) (D.may_leave self.new.below)) }
+        ensures remains { IfSome (D.seen self.old.below) (D.may_leave self.old.below)
+            → IfSome (D.seen self.new.below) (D.may_leave self.new.below) }
         ensures stays { D.same_disk self.old.below self.new.below }
-        ensures count { self.old.faults + D.faults self.old.below ≤ self.new.faults + D.faults self.new.below }
-        ensures failed { OnErr result (Rose (self.old.faults + D.faults self.old.below) (self.new.faults + D.faults self.new.below)) }
+        ensures counts { CountsFaults result
+            (self.old.faults + D.faults self.old.below) (self.new.faults + D.faults self.new.below) }
+        ensures within { Covers (budget_below self.old.failing (D.budget self.old.below)) 0
+            → IsOk result }
+        ensures spends { SpendsAtMost 0 (budget_below self.old.failing (D.budget self.old.below))
+            (budget_below self.new.failing (D.budget self.new.below)) }
         ensures failing { FailsAsListed D.faults result self.old self.new }
     {
         if self.failing.fails_next() {
@@ -83,14 +95,23 @@ impl<D: Disk> Disk for FailingDisk<D> {
 
     fn read(&mut self, at: u64, into: &mut [u8]) -> Result<(), Failed>
         requires { IfSome (D.seen self.old.below) (λ content. at + length into.old ≤ length content) }
-        ensures bytes { WhereTold (D.seen self.old.below) (D.seen self.new.below) (λ old _. IsRead result at into.new old) }
-        ensures same { WhereTold (D.seen self.old.below) (D.seen self.new.below) (λ old new. new ≡ old) }
+        ensures bytes { WhereTold (D.seen self.old.below) (D.seen self.new.below)
+            (λ old _. IsRead result at into.new old) }
+        ensures same { WhereTold (D.seen self.old.below) (D.seen self.new.below)
+            (λ old new. new ≡ old) }
         ensures crash { SameImages (D.may_leave self.old.below) (D.may_leave self.new.below) }
-        ensures time { Elapses (D.moment self.old.below) (D.moment self.new.below) (D.left_since self.old.below) (D.left_since self.new.below) (D.may_leave self.new.below) }
+        ensures time { Elapses (D.moment self.old.below) (D.moment self.new.below)
+            (D.left_since self.old.below) (D.left_since self.new.below) (D.may_leave self.new.below) }
         ensures possible { OnOk result (IfSome (D.seen self.new.below) (D.may_leave self.new.below)) }
+        ensures remains { IfSome (D.seen self.old.below) (D.may_leave self.old.below)
+            → IfSome (D.seen self.new.below) (D.may_leave self.new.below) }
         ensures stays { D.same_disk self.old.below self.new.below }
-        ensures count { self.old.faults + D.faults self.old.below ≤ self.new.faults + D.faults self.new.below }
-        ensures failed { OnErr result (Rose (self.old.faults + D.faults self.old.below) (self.new.faults + D.faults self.new.below)) }
+        ensures counts { CountsFaults result
+            (self.old.faults + D.faults self.old.below) (self.new.faults + D.faults self.new.below) }
+        ensures within { Covers (budget_below self.old.failing (D.budget self.old.below)) 0
+            → IsOk result }
+        ensures spends { SpendsAtMost 0 (budget_below self.old.failing (D.budget self.old.below))
+            (budget_below self.new.failing (D.budget self.new.below)) }
         ensures failing { FailsAsListed D.faults result self.old self.new }
     {
         if self.failing.fails_next() {
@@ -101,14 +122,23 @@ impl<D: Disk> Disk for FailingDisk<D> {
 
     fn write_at(&mut self, at: u64, piece: &[u8]) -> Result<(), Failed>
         requires { IfSome (D.seen self.old.below) (λ content. at ≤ length content) }
-        ensures written { WhereTold (D.seen self.old.below) (D.seen self.new.below) (λ old new. Wrote result at piece.now old new) }
+        ensures written { WhereTold (D.seen self.old.below) (D.seen self.new.below)
+            (λ old new. Wrote result at piece.now old new) }
         ensures bounded { 2 ^ 63 ≤ at + length piece.now → IsErr result }
         ensures crash { Follows (Torn at (length piece.now)) (D.may_leave self.old.below) (D.may_leave self.new.below) }
-        ensures time { Elapses (D.moment self.old.below) (D.moment self.new.below) (D.left_since self.old.below) (D.left_since self.new.below) (D.may_leave self.new.below) }
+        ensures time { Elapses (D.moment self.old.below) (D.moment self.new.below)
+            (D.left_since self.old.below) (D.left_since self.new.below) (D.may_leave self.new.below) }
         ensures possible { OnOk result (IfSome (D.seen self.new.below) (D.may_leave self.new.below)) }
+        ensures remains { IfSome (D.seen self.old.below) (D.may_leave self.old.below)
+            → IfSome (D.seen self.new.below) (D.may_leave self.new.below) }
         ensures stays { D.same_disk self.old.below self.new.below }
-        ensures count { self.old.faults + D.faults self.old.below ≤ self.new.faults + D.faults self.new.below }
-        ensures failed { OnErr result (Rose (self.old.faults + D.faults self.old.below) (self.new.faults + D.faults self.new.below)) }
+        ensures counts { CountsFaults result
+            (self.old.faults + D.faults self.old.below) (self.new.faults + D.faults self.new.below) }
+        ensures within { Covers (budget_below self.old.failing (D.budget self.old.below))
+            (length piece.now) → at + length piece.now < 2 ^ 63 → IsOk result }
+        ensures spends { SpendsAtMost (length piece.now)
+            (budget_below self.old.failing (D.budget self.old.below))
+            (budget_below self.new.failing (D.budget self.new.below)) }
         ensures failing { FailsAsListed D.faults result self.old self.new }
     {
         if self.failing.fails_next() {
@@ -119,13 +149,21 @@ impl<D: Disk> Disk for FailingDisk<D> {
 
     fn cut(&mut self, to: u64) -> Result<(), Failed>
         requires { IfSome (D.seen self.old.below) (λ content. to ≤ length content) }
-        ensures shortened { WhereTold (D.seen self.old.below) (D.seen self.new.below) (λ old new. WasCut result to old new) }
+        ensures shortened { WhereTold (D.seen self.old.below) (D.seen self.new.below)
+            (λ old new. WasCut result to old new) }
         ensures crash { Follows (Shortened to) (D.may_leave self.old.below) (D.may_leave self.new.below) }
-        ensures time { Elapses (D.moment self.old.below) (D.moment self.new.below) (D.left_since self.old.below) (D.left_since self.new.below) (D.may_leave self.new.below) }
+        ensures time { Elapses (D.moment self.old.below) (D.moment self.new.below)
+            (D.left_since self.old.below) (D.left_since self.new.below) (D.may_leave self.new.below) }
         ensures possible { OnOk result (IfSome (D.seen self.new.below) (D.may_leave self.new.below)) }
+        ensures remains { IfSome (D.seen self.old.below) (D.may_leave self.old.below)
+            → IfSome (D.seen self.new.below) (D.may_leave self.new.below) }
         ensures stays { D.same_disk self.old.below self.new.below }
-        ensures count { self.old.faults + D.faults self.old.below ≤ self.new.faults + D.faults self.new.below }
-        ensures failed { OnErr result (Rose (self.old.faults + D.faults self.old.below) (self.new.faults + D.faults self.new.below)) }
+        ensures counts { CountsFaults result
+            (self.old.faults + D.faults self.old.below) (self.new.faults + D.faults self.new.below) }
+        ensures within { Covers (budget_below self.old.failing (D.budget self.old.below)) 0
+            → IsOk result }
+        ensures spends { SpendsAtMost 0 (budget_below self.old.failing (D.budget self.old.below))
+            (budget_below self.new.failing (D.budget self.new.below)) }
         ensures failing { FailsAsListed D.faults result self.old self.new }
     {
         if self.failing.fails_next() {
@@ -135,15 +173,24 @@ impl<D: Disk> Disk for FailingDisk<D> {
     }
 
     fn sync(&mut self) -> Result<(), Failed>
-        ensures same { WhereTold (D.seen self.old.below) (D.seen self.new.below) (λ old new. new ≡ old) }
-        ensures durable { WhereTold (D.seen self.old.below) (D.seen self.new.below) (λ _ new. OnOk result (Only new (D.may_leave self.new.below))) }
+        ensures same { WhereTold (D.seen self.old.below) (D.seen self.new.below)
+            (λ old new. new ≡ old) }
+        ensures durable { WhereTold (D.seen self.old.below) (D.seen self.new.below)
+            (λ _ new. OnOk result (Only new (D.may_leave self.new.below))) }
         ensures crash { NoMore (D.may_leave self.old.below) (D.may_leave self.new.below) }
         ensures unchanged { OnErr result (SameImages (D.may_leave self.old.below) (D.may_leave self.new.below)) }
-        ensures time { Elapses (D.moment self.old.below) (D.moment self.new.below) (D.left_since self.old.below) (D.left_since self.new.below) (D.may_leave self.new.below) }
+        ensures time { Elapses (D.moment self.old.below) (D.moment self.new.below)
+            (D.left_since self.old.below) (D.left_since self.new.below) (D.may_leave self.new.below) }
         ensures possible { OnOk result (IfSome (D.seen self.new.below) (D.may_leave self.new.below)) }
+        ensures remains { IfSome (D.seen self.old.below) (D.may_leave self.old.below)
+            → IfSome (D.seen self.new.below) (D.may_leave self.new.below) }
         ensures stays { D.same_disk self.old.below self.new.below }
-        ensures count { self.old.faults + D.faults self.old.below ≤ self.new.faults + D.faults self.new.below }
-        ensures failed { OnErr result (Rose (self.old.faults + D.faults self.old.below) (self.new.faults + D.faults self.new.below)) }
+        ensures counts { CountsFaults result
+            (self.old.faults + D.faults self.old.below) (self.new.faults + D.faults self.new.below) }
+        ensures within { Covers (budget_below self.old.failing (D.budget self.old.below)) 0
+            → IsOk result }
+        ensures spends { SpendsAtMost 0 (budget_below self.old.failing (D.budget self.old.below))
+            (budget_below self.new.failing (D.budget self.new.below)) }
         ensures failing { FailsAsListed D.faults result self.old self.new }
     {
         if self.failing.fails_next() {

@@ -1,4 +1,5 @@
 ghost use Rattle.std.specs.Prelude.{◌≡◌, ◌+◌, ◌^◌, ◌<◌, ◌≤◌, ℕ, List, Some, Ok, [], length, take, drop, IsTrue, IsErr, IsOk, IfSome, IfOk, OnOk, OnErr, MatchResult, ◌↔◌};
+ghost use Rattle.mx_outside.specs.Budget.{Covers};
 ghost use Rattle.mx_outside.specs.Changes.{AreChanges};
 ghost use Rattle.mx_outside.specs.Changes.Change.{written, cut_to, synced};
 
@@ -26,25 +27,25 @@ pub struct MemoryDisk {
     first: Vec<u8>,
     image: DiskImage,
     log: DiskLog,
-    byte_room: usize,
-    call_room: usize,
+    byte_capacity: usize,
+    call_capacity: usize,
     faults: u64,
 }
 
 impl Model for MemoryDisk {
-    ghost use Rattle.mx_outside.specs.MemoryDisk.{Medium, IsKept};
+    ghost use Rattle.mx_outside.specs.MemoryDisk.{Medium, HoldsMedium};
 
     ghost Value = { Medium };
 
     ghost view = { λ d. record {
       first = d.first.items;
       changes = d.log.changes;
-      byte_room = d.byte_room;
-      call_room = d.call_room;
+      byte_capacity = d.byte_capacity;
+      call_capacity = d.call_capacity;
       faults = d.faults;
     } };
 
-    ghost invariant = { λ d. IsKept d.first.items d.image d.log d.byte_room d.call_room };
+    ghost invariant = { λ d. HoldsMedium d.first.items d.image d.log d.byte_capacity d.call_capacity };
 }
 
 /// Whether a piece of so many bytes at `at` ends within the greatest length.
@@ -59,11 +60,11 @@ fn is_within(at: u64, count: usize) -> bool
 
 impl MemoryDisk {
     ghost use Rattle.mx_outside.specs.Since.{LeavesImages};
-    ghost use Rattle.mx_outside.specs.MemoryDisk.{Medium, content_now, MayLeaveNow, HasRoomFor, Changes, changed, faulted, left_by, at_rest};
+    ghost use Rattle.mx_outside.specs.MemoryDisk.{Medium, content_now, MayLeaveNow, budget_of, Changes, changed, faulted, left_by, at_rest};
 
     /// A disk with this content, with memory for writes of `bytes` bytes in all and for `calls`
-    /// calls that change it. Calls within this room take no memory. `OutOfMemory` where there is
-    /// no memory for the room.
+    /// calls that change it. Calls within these take no memory. `OutOfMemory` where there
+    /// is no memory for them.
     pub fn new(
         alloc: Global,
         content: &[u8],
@@ -76,8 +77,8 @@ impl MemoryDisk {
             first: Vec::from_slice(alloc, content)?,
             image: DiskImage::new(alloc, content, bytes)?,
             log: DiskLog::new(alloc, bytes, calls)?,
-            byte_room: bytes,
-            call_room: calls,
+            byte_capacity: bytes,
+            call_capacity: calls,
             faults: 0,
         })
     }
@@ -89,18 +90,18 @@ impl MemoryDisk {
         self.image.content()
     }
 
-    /// A disk with the same room and nothing pending, whose content is the image that `fill`
+    /// A disk with the same capacity and nothing pending, whose content is the image that `fill`
     /// chooses of those that a crash now may leave. `OutOfMemory` where there is no memory for it.
     ///
     /// A crash now may leave just the images of the rule that [`Disk`] states.
     pub fn left(&self, alloc: Global, fill: Fill) -> Result<MemoryDisk, OutOfMemory>
         ensures image { IfOk result (λ disk. MayLeaveNow self.now (content_now disk)) }
         ensures content { IfOk result (λ disk.
-            disk ≡ at_rest (left_by fill self.now) self.now.byte_room self.now.call_room) }
+            disk ≡ at_rest (left_by fill self.now) self.now.byte_capacity self.now.call_capacity) }
         ensures images { LeavesImages self.now.changes self.now.first }
     {
         let content = self.chosen(alloc, fill)?;
-        MemoryDisk::new(alloc, &content, self.byte_room, self.call_room)
+        MemoryDisk::new(alloc, &content, self.byte_capacity, self.call_capacity)
     }
 
     fn chosen(&self, alloc: Global, fill: Fill) -> Result<Vec<u8>, AllocError>
@@ -119,8 +120,10 @@ impl MemoryDisk {
     fn write_here(&mut self, at: usize, piece: &[u8]) -> Result<(), AllocError>
         requires place { at ≤ length (content_now self.old) }
         requires end { at + length piece.now < 2 ^ 63 }
-        ensures changes { MatchResult result (λ _. self.new ≡ changed self.old (written at piece.now)) (λ _. self.new ≡ self.old) }
-        ensures within { HasRoomFor self.old (length piece.now) → IsOk result }
+        ensures changes { MatchResult result
+            (λ _. self.new ≡ changed self.old (written at piece.now))
+            (λ _. self.new ≡ self.old) }
+        ensures within { Covers (budget_of self.old) (length piece.now) → IsOk result }
         ensures valid { AreChanges self.new.changes self.new.first }
     {
         self.image.reserve(at + piece.len())?;
@@ -132,8 +135,10 @@ impl MemoryDisk {
 
     fn cut_here(&mut self, to: usize) -> Result<(), AllocError>
         requires { to ≤ length (content_now self.old) }
-        ensures changes { MatchResult result (λ _. self.new ≡ changed self.old (cut_to to)) (λ _. self.new ≡ self.old) }
-        ensures within { HasRoomFor self.old 0 → IsOk result }
+        ensures changes { MatchResult result
+            (λ _. self.new ≡ changed self.old (cut_to to))
+            (λ _. self.new ≡ self.old) }
+        ensures within { Covers (budget_of self.old) 0 → IsOk result }
         ensures valid { AreChanges self.new.changes self.new.first }
     {
         self.log.reserve(0)?;
@@ -143,8 +148,10 @@ impl MemoryDisk {
     }
 
     fn sync_here(&mut self) -> Result<(), AllocError>
-        ensures changes { MatchResult result (λ _. self.new ≡ changed self.old synced) (λ _. self.new ≡ self.old) }
-        ensures within { HasRoomFor self.old 0 → IsOk result }
+        ensures changes { MatchResult result
+            (λ _. self.new ≡ changed self.old synced)
+            (λ _. self.new ≡ self.old) }
+        ensures within { Covers (budget_of self.old) 0 → IsOk result }
         ensures valid { AreChanges self.new.changes self.new.first }
     {
         self.log.reserve(0)?;
@@ -156,6 +163,7 @@ impl MemoryDisk {
     fn fail(&mut self) -> Failed
         ensures faulted { self.new ≡ faulted self.old }
         ensures rises { self.old.faults ≤ self.new.faults }
+        ensures valid { AreChanges self.new.changes self.new.first }
     {
         self.faults = self.faults.saturating_add(1);
         Failed
@@ -165,7 +173,7 @@ impl MemoryDisk {
 impl Disk for MemoryDisk {
     ghost use Rattle.mx_outside.specs.Told.{WhereTold, Rose};
     ghost use Rattle.mx_outside.specs.Disk.{Torn, Shortened, Follows, NoMore, SameImages, Only, Elapses, Wrote, WasCut, IsRead};
-    ghost use Rattle.mx_outside.specs.MemoryDisk.{content_now, MayLeaveNow, moment_of, LeftSince, HasRoomFor, Changes};
+    ghost use Rattle.mx_outside.specs.MemoryDisk.{content_now, MayLeaveNow, moment_of, LeftSince, budget_of, Changes};
     ghost use Rattle.mx_outside.specs.MediumLaws.{counts_now, only_now};
 
     ghost seen = { λ d. Some (content_now d) };
@@ -178,6 +186,8 @@ impl Disk for MemoryDisk {
 
     ghost faults = { λ d. d.faults };
 
+    ghost budget = { budget_of };
+
     ghost same_disk = { λ _ _. Unit {0} };
 
     /// The length in bytes. It never fails.
@@ -185,7 +195,7 @@ impl Disk for MemoryDisk {
         ensures length { result ≡ Ok (length (content_now self.old)) }
         ensures bounded { IfOk result (λ n. n < 2 ^ 63) }
         ensures same { self.new ≡ self.old }
-        ensures possible { OnOk result (MayLeaveNow self.new (content_now self.new)) }
+        ensures possible { MayLeaveNow self.new (content_now self.new) }
     {
         Ok(self.image.content().len() as u64)
     }
@@ -196,7 +206,7 @@ impl Disk for MemoryDisk {
         ensures bytes { into.new ≡ take (length into.new) (drop at (content_now self.old)) }
         ensures ok { IsOk result }
         ensures same { self.new ≡ self.old }
-        ensures possible { OnOk result (MayLeaveNow self.new (content_now self.new)) }
+        ensures possible { MayLeaveNow self.new (content_now self.new) }
     {
         let from = at as usize;
         let content = self.image.content();
@@ -204,15 +214,17 @@ impl Disk for MemoryDisk {
         Ok(())
     }
 
-    /// Writes the piece. It fails only past the room or past the greatest length, and changes
+    /// Writes the piece. It fails only past its capacity or past the greatest length, and changes
     /// nothing then.
     fn write_at(&mut self, at: u64, piece: &[u8]) -> Result<(), Failed>
         requires { at ≤ length (content_now self.old) }
         ensures changes { Changes result (written at piece.now) self.old self.new }
-        ensures within { HasRoomFor self.old (length piece.now) → at + length piece.now < 2 ^ 63 → IsOk result }
+        ensures within { Covers (budget_of self.old) (length piece.now)
+            → at + length piece.now < 2 ^ 63 → IsOk result }
         ensures bounded { 2 ^ 63 ≤ at + length piece.now → IsErr result }
-        ensures time { Elapses (moment_of self.old) (moment_of self.new) (LeftSince self.old) (LeftSince self.new) (MayLeaveNow self.new) }
-        ensures possible { OnOk result (MayLeaveNow self.new (content_now self.new)) }
+        ensures time { Elapses (moment_of self.old) (moment_of self.new)
+            (LeftSince self.old) (LeftSince self.new) (MayLeaveNow self.new) }
+        ensures possible { MayLeaveNow self.new (content_now self.new) }
         ensures count { self.old.faults ≤ self.new.faults }
     {
         if !is_within(at, piece.len()) {
@@ -224,13 +236,14 @@ impl Disk for MemoryDisk {
         }
     }
 
-    /// Cuts the disk. It fails only past the room, and changes nothing then.
+    /// Cuts the disk. It fails only past its capacity, and changes nothing then.
     fn cut(&mut self, to: u64) -> Result<(), Failed>
         requires { to ≤ length (content_now self.old) }
         ensures changes { Changes result (cut_to to) self.old self.new }
-        ensures within { HasRoomFor self.old 0 → IsOk result }
-        ensures time { Elapses (moment_of self.old) (moment_of self.new) (LeftSince self.old) (LeftSince self.new) (MayLeaveNow self.new) }
-        ensures possible { OnOk result (MayLeaveNow self.new (content_now self.new)) }
+        ensures within { Covers (budget_of self.old) 0 → IsOk result }
+        ensures time { Elapses (moment_of self.old) (moment_of self.new)
+            (LeftSince self.old) (LeftSince self.new) (MayLeaveNow self.new) }
+        ensures possible { MayLeaveNow self.new (content_now self.new) }
         ensures count { self.old.faults ≤ self.new.faults }
     {
         match self.cut_here(to as usize) {
@@ -239,13 +252,14 @@ impl Disk for MemoryDisk {
         }
     }
 
-    /// Syncs the disk. It fails only past the room, and changes nothing then.
+    /// Syncs the disk. It fails only past its capacity, and changes nothing then.
     fn sync(&mut self) -> Result<(), Failed>
         ensures changes { Changes result synced self.old self.new }
-        ensures within { HasRoomFor self.old 0 → IsOk result }
+        ensures within { Covers (budget_of self.old) 0 → IsOk result }
         ensures crash { NoMore (MayLeaveNow self.old) (MayLeaveNow self.new) }
-        ensures time { Elapses (moment_of self.old) (moment_of self.new) (LeftSince self.old) (LeftSince self.new) (MayLeaveNow self.new) }
-        ensures possible { OnOk result (MayLeaveNow self.new (content_now self.new)) }
+        ensures time { Elapses (moment_of self.old) (moment_of self.new)
+            (LeftSince self.old) (LeftSince self.new) (MayLeaveNow self.new) }
+        ensures possible { MayLeaveNow self.new (content_now self.new) }
         ensures count { self.old.faults ≤ self.new.faults }
     {
         match self.sync_here() {

@@ -3,12 +3,12 @@ use Rattle.std.proofs.Common.{◌∷◌, [], ap, ◌∙◌, arith}
 use Rattle.mx_outside.specs.DiskLog.{Log}
 use Rattle.mx_outside.specs.Changes.Change.{cut_to}
 use Rattle.mx_outside.specs.declared.disk_log.Logged.TheVariants as logged
-use Rattle.mx_outside.proofs.Logged.{room_from, changes_after-cut, logged_bytes-append}
+use Rattle.mx_outside.proofs.Logged.{covered_fits, changes_after-cut, logged_bytes-append}
 use Rattle.mx_outside.proofs.disk_log.DiskLog.push_cut.Goals as goal
 
 pub push_reserved-requires : goal.push_reserved-requires
 push_reserved-requires c =
-    let room = room_from c.self.inside.calls.items c.self.inside.bytes.items _ _ 0 c.args.self.now c.self.view_is c.self.invariant c.requires in
+    let fits = covered_fits c.self.inside.calls.items c.self.inside.bytes.items _ _ 0 c.args.self.now c.self.view_is c.self.invariant (omega arith) c.requires in
     omega arith
 
 pub invariant_of-self : goal.invariant_of-self

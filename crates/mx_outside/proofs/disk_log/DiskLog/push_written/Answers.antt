@@ -3,17 +3,17 @@ use Rattle.std.proofs.Common.{◌∷◌, [], length, refl, ap, ◌∙◌, arith,
 use Rattle.mx_outside.specs.DiskLog.{Log}
 use Rattle.mx_outside.specs.Changes.Change.{written}
 use Rattle.mx_outside.specs.declared.disk_log.Logged.TheVariants as logged
-use Rattle.mx_outside.proofs.Logged.{room_from, changes_after-written, logged_bytes-append}
+use Rattle.mx_outside.proofs.Logged.{covered_fits, changes_after-written, logged_bytes-append}
 use Rattle.mx_outside.proofs.disk_log.DiskLog.push_written.Goals as goal
 
 pub unreachable-requires : goal.unreachable-requires
 unreachable-requires c =
-    let room = room_from c.self.inside.calls.items c.self.inside.bytes.items _ _ (length c.args.piece.now) c.args.self.now c.self.view_is c.self.invariant c.requires in
+    let fits = covered_fits c.self.inside.calls.items c.self.inside.bytes.items _ _ (length c.args.piece.now) c.args.self.now c.self.view_is c.self.invariant (omega arith) c.requires in
     omega (arith, c.in-Err.ensures.full)
 
 pub push_reserved-requires : goal.push_reserved-requires
 push_reserved-requires c =
-    let room = room_from c.self.inside.calls.items c.self.inside.bytes.items _ _ (length c.args.piece.now) c.args.self.now c.self.view_is c.self.invariant c.requires in
+    let fits = covered_fits c.self.inside.calls.items c.self.inside.bytes.items _ _ (length c.args.piece.now) c.args.self.now c.self.view_is c.self.invariant (omega arith) c.requires in
     omega arith
 
 pub invariant_of-self : goal.invariant_of-self

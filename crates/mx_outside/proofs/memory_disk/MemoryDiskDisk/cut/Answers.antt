@@ -10,3 +10,6 @@ returns-in-Ok-clause-time c =
 
 pub returns-in-Ok-clause-possible : goal.returns-in-Ok-clause-possible
 returns-in-Ok-clause-possible c = leaves_content _ _ c.cut_here.ensures.valid
+
+pub returns-in-Err-clause-possible : goal.returns-in-Err-clause-possible
+returns-in-Err-clause-possible c = leaves_content _ _ c.fail.ensures.valid

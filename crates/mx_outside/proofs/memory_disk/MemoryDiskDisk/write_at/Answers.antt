@@ -10,3 +10,9 @@ returns-in-Ok-clause-time c =
 
 pub returns-in-Ok-clause-possible : goal.returns-in-Ok-clause-possible
 returns-in-Ok-clause-possible c = leaves_content _ _ c.write_here.ensures.valid
+
+pub returns-in-Err-clause-possible : goal.returns-in-Err-clause-possible
+returns-in-Err-clause-possible c = leaves_content _ _ c.fail-in-Err.ensures.valid
+
+pub returns-then-not-is_within-clause-possible : goal.returns-then-not-is_within-clause-possible
+returns-then-not-is_within-clause-possible c = leaves_content _ _ c.fail.ensures.valid
