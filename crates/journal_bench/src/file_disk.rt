@@ -1,5 +1,6 @@
-ghost use Rattle.std.specs.Prelude.{◌≤◌, OnErr};
+ghost use Rattle.std.specs.Prelude.{◌≤◌};
 ghost use Rattle.mx_outside.specs.Told.{Rose};
+ghost use Rattle.mx_outside.specs.Disk.{CountsFaults};
 
 use mx_outside::{Disk, Failed};
 use std::fs::{File, OpenFile};
@@ -27,8 +28,7 @@ impl FileDisk {
     }
 
     fn answer<T: Drop>(&mut self, done: io::Result<T>) -> Result<T, Failed>
-        ensures count { self.old.faults ≤ self.new.faults }
-        ensures failed { OnErr result (Rose self.old.faults self.new.faults) }
+        ensures { CountsFaults result self.old.faults self.new.faults }
     {
         match done {
             Ok(value) => Ok(value),
@@ -39,6 +39,7 @@ impl FileDisk {
 
 impl Disk for FileDisk {
     ghost use Rattle.std.specs.Prelude.{None};
+    ghost use Rattle.mx_outside.specs.Budget.{no_budget};
 
     ghost seen = { λ _. None };
 
@@ -49,6 +50,8 @@ impl Disk for FileDisk {
     ghost left_since = { λ _ _ _. ⊥ };
 
     ghost faults = { λ d. d.faults };
+
+    ghost budget = { λ _. no_budget };
 
     ghost same_disk = { λ _ _. Unit {0} };
 

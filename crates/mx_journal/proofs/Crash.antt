@@ -5,7 +5,7 @@ use Rattle.std.proofs.lemmas.Bool.{cases_eq}
 use Rattle.mx_outside.specs.Disk.{Torn, put_at}
 use Rattle.mx_journal.specs.Image.{open_gate, closed_gate, IsPayload, ArePayloads, body_of, records_of, front_of, header, IsJournalOf, StandsForEither}
 use Rattle.mx_journal.specs.Journal.{ReadTo, HasClosedGate}
-use Rattle.mx_journal.specs.Kept.{staged_bytes}
+use Rattle.mx_journal.specs.Held.{staged_bytes}
 
 -- These payloads, a closed gate, and a whole record behind it.
 pub record IsStagedIn (content : List ℕ) (payloads : List (List ℕ)) (payload : List ℕ) : Type 0 where

@@ -4,15 +4,14 @@ use Rattle.std.specs.Int.{w32, from_le_bytes}
 use Rattle.std.proofs.lemmas.Nat.{from_le_bytes-to_le_bytes_4}
 use Rattle.std.proofs.lemmas.Bool.{cases_lt}
 use Rattle.std.proofs.lemmas.List.{append_assoc, append-nil, length-append, length-drop, length-take-le, take-append-drop, drop_all, drop_more, drop-drop}
-use Rattle.mx_outside.specs.Disk.{Only}
-use Rattle.mx_journal.specs.Image.{number_bytes, header, open_gate, closed_gate, ArePayloads, body_of, front_of, empty_journal, StandsForPayloads}
+use Rattle.mx_journal.specs.Image.{number_bytes, header, open_gate, closed_gate, ArePayloads, body_of, front_of, empty_journal, IsJournalOf, StandsForPayloads}
 use Rattle.mx_journal.specs.Fault.{number_in, LacksBody, HasBodyOf, IsFaultyGate, HasFaultyGateAt, IsNotAJournalAt}
-use Rattle.mx_journal.specs.Journal.{ReadTo, HasClosedGate, RestsAt}
+use Rattle.mx_journal.specs.Journal.{ReadTo, HasClosedGate, LeavesAlike, RestsAt}
 use Rattle.mx_journal.specs.declared.error.JournalError.{JournalError}
 use Rattle.mx_journal.specs.declared.error.JournalError.TheVariants.{NotAJournal, DiskFault, OutOfMemory}
-use Rattle.mx_journal.specs.Reading.{HasRecord, Found}
+use Rattle.mx_journal.specs.NextRecord.{HasRecord, Found, BeginsWith}
 use Rattle.mx_journal.proofs.Bytes.{length-body_of}
-use Rattle.mx_journal.proofs.Images.{HasNoRecord-closed, HasNoRecord-faulty, same_fronts, stands_for_one}
+use Rattle.mx_journal.proofs.Images.{HasNoRecord-closed, HasNoRecord-faulty, same_fronts, stands_for_one, front_begins}
 use Rattle.mx_journal.proofs.Crash.{IsJournalOf-read, front_of-push, ArePayloads-push}
 
 pub number_in-shown : (n : ℕ) (bytes : List ℕ) → n < 2 ^ 32 → number_bytes n ≡ take 4 bytes → number_in bytes ≡ n
@@ -71,14 +70,24 @@ stands_all {content = content} {payloads = payloads} others read closed =
     let this : StandsForPayloads content payloads = inr (IsJournalOf-read read closed) in
     (λ stands. stands_for_one content others payloads stands this, λ same. subst (λ (ps : List (List ℕ)). StandsForPayloads content ps) (sym same) this)
 
-pub RestsAt-read : {seen : Option (List ℕ)} {offset : ℕ} {content : List ℕ} {payloads : List (List ℕ)} {may_leave : List ℕ → Type 0} (now : Option (List ℕ)) → ReadTo seen offset content payloads → HasClosedGate content offset → now ≡ Some content → Only content may_leave
-    → RestsAt now may_leave offset payloads
-RestsAt-read {content = content} now read closed told durable = record {
+pub RestsAt-read : {seen : Option (List ℕ)} {offset : ℕ} {content : List ℕ} {payloads : List (List ℕ)} {old may_leave : List ℕ → Type 0} (now : Option (List ℕ)) → ReadTo seen offset content payloads → HasClosedGate content offset → now ≡ Some content → LeavesAlike content payloads old
+    → ((image : List ℕ) → may_leave image → old image) → RestsAt now may_leave offset payloads
+RestsAt-read {content = content} {payloads = payloads} now read closed told alike before = record {
   content = content;
   read = record { told = told; whole = read.whole; front = read.front; place = read.place; fit = read.fit };
   gate_closed = closed;
-  durable = durable;
+  durable = λ image may.
+      ⊎_elim (λ (same : image ≡ content). subst (λ (i : List ℕ). IsJournalOf i payloads) (sym same) (IsJournalOf-read read closed)) (λ journal. journal) (alike image (before image may));
 }
+
+-- What the content stands for begins with what was read.
+pub begins_with_read : {seen : Option (List ℕ)} {offset : ℕ} {content : List ℕ} {payloads : List (List ℕ)} (others : List (List ℕ)) → ReadTo seen offset content payloads → StandsForPayloads content others → BeginsWith others payloads
+begins_with_read {offset = offset} {content = content} {payloads = payloads} others read (inl short) =
+    let empty : IsJournalOf content [] = record { gate = closed_gate; behind = []; is = read.whole short.0 ∙ ap (λ h. h ++ closed_gate ∷ []) (sym (append-nil header)); closed = λ e. absurd (omega arith); fit = tt } in
+    let begins = front_begins content payloads [] (drop offset content) read.fit read.front empty in
+    (begins.0, short.1 ∙ begins.1)
+begins_with_read {offset = offset} {content = content} {payloads = payloads} others read (inr journal) =
+    front_begins content payloads others (drop offset content) read.fit read.front journal
 
 -- At a faulty gate the image has its first fault.
 pub HasFaultyGateAt-read : {seen : Option (List ℕ)} {offset : ℕ} {content : List ℕ} {payloads : List (List ℕ)} → ReadTo seen offset content payloads → IsFaultyGate (drop offset content) → HasFaultyGateAt content offset
@@ -109,6 +118,12 @@ IsNotAJournalAt-read {offset = offset} {content = content} {payloads = payloads}
 
 pub Found-fault : (result : Result Bool JournalError) (content : List ℕ) (gate : ℕ) (out : List ℕ) (offset : ℕ) → Found result content gate out → result ≡ Err (NotAJournal offset) → (offset ≡ gate) × IsFaultyGate (drop gate content)
 Found-fault result content gate out offset found is = subst (λ (r : Result Bool JournalError). Found r content gate out) is found
+
+-- Where nothing is given, what was found says nothing of the buffer.
+pub Found-other : (cause : JournalError) (content : List ℕ) (gate : ℕ) (out other : List ℕ) → Found (Err cause) content gate out → Found (Err cause) content gate other
+Found-other (NotAJournal offset) content gate out other found = found
+Found-other DiskFault content gate out other found = found
+Found-other OutOfMemory content gate out other found = found
 
 record_not_closed : {content payload : List ℕ} {offset : ℕ} → HasRecord content offset payload → HasClosedGate content offset → ⊥
 record_not_closed here closed = closed.closed (cc (here.is, closed.is))

@@ -3,6 +3,7 @@ use Rattle.std.proofs.Common.{◌≡◌, ◌≢◌, inl, inr, ⊎_elim, ℕ, ◌
 use Rattle.std.proofs.lemmas.List.{append_assoc, append_cancel_left, length-append, take_at}
 use Rattle.mx_journal.specs.Image.{number_bytes, header, open_gate, IsPayload, ArePayloads, body_of, records_of, front_of, IsJournalOf, StandsForPayloads}
 use Rattle.mx_journal.specs.Fault.{number_in, LacksBody, IsFaultyGate, LacksHeader, HasFaultyGateAt, IsNotAJournalAt}
+use Rattle.mx_journal.specs.NextRecord.{BeginsWith}
 use Rattle.mx_journal.proofs.Bytes.{length-header, length-body_of, number_in-number_bytes, same_body}
 
 -- No record stands at the front of these bytes.
@@ -83,3 +84,19 @@ fault_stands_for_none image offset qs fault (inr journal) =
 pub one_fault : (image : List ℕ) (offset other : ℕ) → HasFaultyGateAt image offset → IsNotAJournalAt image other → other ≡ offset
 one_fault image offset other at fault =
     ⊎_elim (λ (lacks : LacksHeader image other). absurd (lacks.differs (header_first image at.before _ at.is))) (λ (b : HasFaultyGateAt image other). sym b.place ∙ ap (λ ps. length (front_of ps)) (same_fronts b.before at.before _ _ b.fit at.fit (HasNoRecord-faulty b.behind b.faulty) (HasNoRecord-faulty at.behind at.faulty) (sym b.is ∙ at.is)).0 ∙ at.place) fault.1
+
+-- What is read of records up to anything is a front of what is read up to where none stands.
+records_begin : (ps qs : List (List ℕ)) (t u : List ℕ) → ArePayloads ps → ArePayloads qs → HasNoRecord u → records_of ps ++ t ≡ records_of qs ++ u → BeginsWith qs ps
+records_begin [] qs t u fp fq nu is = (qs, refl)
+records_begin (p ∷ ps) [] t u fp fq nu is =
+    absurd (nu p (records_of ps ++ t) fp.0 (sym is ∙ ap (λ r. open_gate ∷ r) (append_assoc (body_of p) (records_of ps) t)))
+records_begin (p ∷ ps) (q ∷ qs) t u fp fq nu is =
+    let behind : (body_of p ++ records_of ps) ++ t ≡ (body_of q ++ records_of qs) ++ u = cc in
+    let both = same_body p q (records_of ps ++ t) (records_of qs ++ u) fp.0 fq.0 (sym (append_assoc (body_of p) (records_of ps) t) ∙ behind ∙ append_assoc (body_of q) (records_of qs) u) in
+    let rest = records_begin ps qs t u fp.1 fq.1 nu both.1 in
+    (rest.0, cc (both.0, rest.1))
+
+-- The same behind the header, where the image is a journal.
+pub front_begins : (image : List ℕ) (ps qs : List (List ℕ)) (t : List ℕ) → ArePayloads ps → image ≡ front_of ps ++ t → IsJournalOf image qs → BeginsWith qs ps
+front_begins image ps qs t fit is journal =
+    records_begin ps qs t (journal.gate ∷ journal.behind) fit journal.fit (HasNoRecord-closed journal.gate journal.behind journal.closed) (append_cancel_left header _ _ (sym (append_assoc header (records_of ps) t) ∙ sym is ∙ journal.is ∙ append_assoc header (records_of qs) (journal.gate ∷ journal.behind)))

@@ -1,9 +1,10 @@
 -- How a run of calls of a disk goes on.
-use Rattle.std.proofs.Common.{◌≡◌, ◌∙◌, inl, inr, ⊎_elim, ℕ, ◌≤◌, List, Option, arith}
+use Rattle.std.proofs.Common.{◌≡◌, ◌∙◌, inl, inr, ⊎_elim, ℕ, ◌≤◌, List, Option, IfSome, arith}
 use Rattle.mx_outside.specs.Told.{WhereTold}
-use Rattle.mx_outside.specs.Disk.{SameImages, Elapses, LeavesOnly}
+use Rattle.mx_outside.specs.Disk.{Torn, Follows, SameImages, Elapses, LeavesOnly}
 use Rattle.mx_outside.proofs.Told.{WhereTold-then}
-use Rattle.mx_journal.specs.Reading.{OnlyReads}
+use Rattle.mx_outside.proofs.Torn.{torn_same}
+use Rattle.mx_journal.specs.Calls.{OnlyReads, IsTornFrom}
 
 -- Before the first call a crash leaves what it may leave now.
 pub LeavesOnly-none : {D : Type 0} {moment : D → ℕ} {left_since : D → ℕ → List ℕ → Type 0} (disk : D) (P : List ℕ → Type 0)
@@ -38,25 +39,32 @@ LeavesOnly-then {moment = moment} {old = old} first second = record {
 }
 
 -- One call that reads.
-pub OnlyReads-call : {D : Type 0} {same_disk : D → D → Type 0} {seen : D → Option (List ℕ)} {may_leave : D → List ℕ → Type 0} {moment : D → ℕ} {left_since : D → ℕ → List ℕ → Type 0} {faults : D → ℕ} (old new : D)
+pub OnlyReads-call : {D : Type 0} {same_disk : D → D → Type 0} {seen : D → Option (List ℕ)} {may_leave : D → List ℕ → Type 0} {moment : D → ℕ} {left_since : D → ℕ → List ℕ → Type 0} (old new : D)
     → ((image : List ℕ) → left_since old (moment old) image → may_leave old image) → same_disk old new → WhereTold (seen old) (seen new) (λ before after. after ≡ before) → SameImages (may_leave old) (may_leave new)
-    → Elapses (moment old) (moment new) (left_since old) (left_since new) (may_leave new) → faults old ≤ faults new → OnlyReads same_disk seen may_leave moment left_since faults old new
-OnlyReads-call {may_leave = may_leave} old new now stays same images time count = record {
+    → Elapses (moment old) (moment new) (left_since old) (left_since new) (may_leave new) → (IfSome (seen old) (may_leave old) → IfSome (seen new) (may_leave new)) → OnlyReads same_disk seen may_leave moment left_since old new
+OnlyReads-call {may_leave = may_leave} old new now stays same images time remains = record {
   stays = stays;
   same = same;
   images = images;
   any_moment = LeavesOnly-more new (LeavesOnly-none old (may_leave old) now) time (λ image may. (images image).0 may);
-  count = count;
+  remains = remains;
 }
 
 -- Calls that read, one after another.
-pub OnlyReads-then : {D : Type 0} {same_disk : D → D → Type 0} {seen : D → Option (List ℕ)} {may_leave : D → List ℕ → Type 0} {moment : D → ℕ} {left_since : D → ℕ → List ℕ → Type 0} {faults : D → ℕ} (old mid new : D)
-    → (same_disk old mid → same_disk mid new → same_disk old new) → OnlyReads same_disk seen may_leave moment left_since faults old mid → OnlyReads same_disk seen may_leave moment left_since faults mid new
-    → OnlyReads same_disk seen may_leave moment left_since faults old new
+pub OnlyReads-then : {D : Type 0} {same_disk : D → D → Type 0} {seen : D → Option (List ℕ)} {may_leave : D → List ℕ → Type 0} {moment : D → ℕ} {left_since : D → ℕ → List ℕ → Type 0} (old mid new : D)
+    → (same_disk old mid → same_disk mid new → same_disk old new) → OnlyReads same_disk seen may_leave moment left_since old mid → OnlyReads same_disk seen may_leave moment left_since mid new
+    → OnlyReads same_disk seen may_leave moment left_since old new
 OnlyReads-then {seen = seen} {may_leave = may_leave} old mid new stays first second = record {
   stays = stays first.stays second.stays;
   same = WhereTold-then (λ before after. after ≡ before) (λ before after. after ≡ before) (λ before after. after ≡ before) (seen old) (seen mid) (seen new) first.same second.same (λ x y z one two. two ∙ one);
   images = λ image. (λ may. (first.images image).0 ((second.images image).0 may), λ may. (second.images image).1 ((first.images image).1 may));
   any_moment = LeavesOnly-then first.any_moment (LeavesOnly-weaker (may_leave old) second.any_moment (λ image may. (first.images image).0 may));
-  count = omega (arith, first.count, second.count);
+  remains = λ one. second.remains (first.remains one);
 }
+
+-- A write.
+pub LeavesOnly-write : {D : Type 0} {moment : D → ℕ} {left_since : D → ℕ → List ℕ → Type 0} (may_leave : D → List ℕ → Type 0) (old new : D) (at n : ℕ)
+    → ((image : List ℕ) → left_since old (moment old) image → may_leave old image) → Elapses (moment old) (moment new) (left_since old) (left_since new) (may_leave new)
+    → Follows (Torn at n) (may_leave old) (may_leave new) → LeavesOnly moment left_since old new (IsTornFrom (may_leave old) at n)
+LeavesOnly-write may_leave old new at n now time follows =
+    LeavesOnly-more new (LeavesOnly-none old (IsTornFrom (may_leave old) at n) (λ image left. (image, now image left, torn_same at n image))) time follows

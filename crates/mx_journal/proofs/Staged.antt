@@ -2,7 +2,7 @@
 use Rattle.std.proofs.Common.{◌≡◌, inl, inr, ℕ, ◌+◌, ◌-◌, ◌<◌, List, [], ◌∷◌, ◌++◌, length, take, drop, sym, ◌∙◌, ap, arith}
 use Rattle.std.proofs.lemmas.List.{append_assoc, length-append, take_at, drop_at}
 use Rattle.mx_journal.specs.Image.{number_bytes, closed_gate, IsPayload, body_of}
-use Rattle.mx_journal.specs.Kept.{staged_bytes, payload_in, IsStaged}
+use Rattle.mx_journal.specs.Held.{staged_bytes, payload_in, IsStaged}
 use Rattle.mx_journal.proofs.Bytes.{length-number_bytes, length-body_of}
 
 pub length-staged_bytes : (payload : List ℕ) → length (staged_bytes payload) ≡ 5 + length payload

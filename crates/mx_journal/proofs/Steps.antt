@@ -1,12 +1,13 @@
 -- A disk from call to call of a commit.
-use Rattle.std.proofs.Common.{◌≡◌, inr, ℕ, ◌+◌, ◌≤◌, List, [], ◌∷◌, ◌++◌, Option, Some, None, IfSome, length, take, drop, sym, ◌∙◌, ap, subst, arith}
+use Rattle.std.proofs.Common.{◌≡◌, ℕ, ◌+◌, ◌≤◌, List, [], ◌∷◌, ◌++◌, Option, Some, None, IfSome, length, take, drop, sym, ◌∙◌, ap, subst, arith}
 use Rattle.std.proofs.lemmas.List.{append_assoc, length-append, length_push, length-take-le, drop_at}
 use Rattle.mx_outside.specs.Told.{WhereTold}
-use Rattle.mx_outside.specs.Disk.{Torn, put_at, Follows, Only}
+use Rattle.mx_outside.specs.Disk.{Torn, put_at, Only}
 use Rattle.mx_outside.proofs.Told.{WhereTold-at, WhereTold-then}
-use Rattle.mx_journal.specs.Image.{open_gate, closed_gate, IsPayload, ArePayloads, body_of, front_of, IsJournalOf, StandsForPayloads, StandsForEither}
+use Rattle.mx_journal.specs.Image.{open_gate, closed_gate, IsPayload, ArePayloads, body_of, front_of, IsJournalOf, StandsForEither}
+use Rattle.mx_journal.specs.Calls.{IsTornFrom}
 use Rattle.mx_journal.specs.Journal.{HasClosedGate, RestsAt}
-use Rattle.mx_journal.specs.Kept.{staged_bytes}
+use Rattle.mx_journal.specs.Held.{staged_bytes}
 use Rattle.mx_journal.proofs.Bytes.{length-body_of}
 use Rattle.mx_journal.proofs.Images.{length-front_of}
 use Rattle.mx_journal.proofs.Crash.{IsStagedIn, IsJournalOf-read, front_of-push, ArePayloads-push, torn_behind, written_behind, torn_gate, written_gate}
@@ -14,93 +15,57 @@ use Rattle.mx_journal.proofs.Crash.{IsStagedIn, IsJournalOf-read, front_of-push,
 pub journal_at_rest : {seen : Option (List ℕ)} {may_leave : List ℕ → Type 0} {offset : ℕ} {payloads : List (List ℕ)} (rests : RestsAt seen may_leave offset payloads) → IsJournalOf rests.content payloads
 journal_at_rest rests = IsJournalOf-read rests.read rests.gate_closed
 
-pub stands_at_rest : {seen : Option (List ℕ)} {may_leave : List ℕ → Type 0} {offset : ℕ} {payloads : List (List ℕ)} → RestsAt seen may_leave offset payloads → (image : List ℕ) → may_leave image → StandsForPayloads image payloads
-stands_at_rest {payloads = payloads} rests image may =
-    inr (subst (λ (i : List ℕ). IsJournalOf i payloads) (sym (rests.durable image may)) (journal_at_rest rests))
-
 -- The first write leaves the old payloads.
-pub first_leaves : {seen : Option (List ℕ)} {old new : List ℕ → Type 0} {offset : ℕ} {payloads : List (List ℕ)} (n : ℕ) → RestsAt seen old offset payloads → Follows (Torn (offset + 1) n) old new
-    → (image : List ℕ) → new image → IsJournalOf image payloads
-first_leaves {offset = offset} {payloads = payloads} n rests follows image may =
-    let step = follows image may in
-    torn_behind rests.content image payloads offset n (journal_at_rest rests) rests.read.place (subst (λ (i : List ℕ). Torn (offset + 1) n i image) (rests.durable step.0 step.1) step.2)
+pub first_leaves : {seen : Option (List ℕ)} {old : List ℕ → Type 0} {offset : ℕ} {payloads : List (List ℕ)} (n : ℕ) → RestsAt seen old offset payloads → (image : List ℕ) → IsTornFrom old (offset + 1) n image → IsJournalOf image payloads
+first_leaves {offset = offset} {payloads = payloads} n rests image torn =
+    torn_behind torn.0 image payloads offset n (rests.durable torn.0 torn.1) rests.read.place torn.2
 
--- The record stands behind the closed gate.
-pub record StagedOn (seen : Option (List ℕ)) (payloads : List (List ℕ)) (payload : List ℕ) : Type 0 where
-  pub content : List ℕ
-  pub told : seen ≡ Some content
-  pub staged : IsStagedIn content payloads payload
-
-pub first_writes : (old new : Option (List ℕ)) {may_leave : List ℕ → Type 0} {offset : ℕ} {payloads : List (List ℕ)} (payload piece : List ℕ) → RestsAt old may_leave offset payloads → piece ≡ staged_bytes payload
-    → WhereTold old new (λ before after. after ≡ put_at (offset + 1) piece before) → StagedOn new payloads payload
-first_writes old new {offset = offset} {payloads = payloads} payload piece rests is written =
-    let at = WhereTold-at (λ before after. after ≡ put_at (offset + 1) piece before) old new rests.content written rests.read.told in
-    record {
-      content = at.0;
-      told = at.1;
-      staged = written_behind rests.content at.0 payloads payload offset (journal_at_rest rests) rests.read.place (at.2 ∙ ap (λ bytes. put_at (offset + 1) bytes rests.content) is);
-    }
-
--- The record is on the disk.
-pub record SyncedOn (seen : Option (List ℕ)) (may_leave : List ℕ → Type 0) (payloads : List (List ℕ)) (payload : List ℕ) : Type 0 where
+-- The record is on the disk, behind the closed gate.
+pub record StagedOn (seen : Option (List ℕ)) (may_leave : List ℕ → Type 0) (payloads : List (List ℕ)) (payload : List ℕ) : Type 0 where
   pub content : List ℕ
   pub told : seen ≡ Some content
   pub staged : IsStagedIn content payloads payload
   pub durable : Only content may_leave
 
-pub first_syncs : (old new : Option (List ℕ)) {may_leave : List ℕ → Type 0} {payloads : List (List ℕ)} {payload : List ℕ} → StagedOn old payloads payload
-    → WhereTold old new (λ before after. after ≡ before) → WhereTold old new (λ before after. Only after may_leave) → SyncedOn new may_leave payloads payload
-first_syncs old new {may_leave = may_leave} {payloads = payloads} {payload = payload} on same durable =
-    let at = WhereTold-at (λ before after. after ≡ before) old new on.content same on.told in
-    let kept = WhereTold-at (λ before after. Only after may_leave) old new on.content durable on.told in
+pub first_writes : (old new : Option (List ℕ)) {may_leave later : List ℕ → Type 0} {offset : ℕ} {payloads : List (List ℕ)} (payload piece : List ℕ) → RestsAt old may_leave offset payloads → piece ≡ staged_bytes payload
+    → WhereTold old new (λ before after. after ≡ put_at (offset + 1) piece before) → WhereTold old new (λ before after. Only after later) → StagedOn new later payloads payload
+first_writes old new {later = later} {offset = offset} {payloads = payloads} payload piece rests is written durable =
+    let at = WhereTold-at (λ before after. after ≡ put_at (offset + 1) piece before) old new rests.content written rests.read.told in
+    let kept = WhereTold-at (λ before after. Only after later) old new rests.content durable rests.read.told in
     record {
       content = at.0;
       told = at.1;
-      staged = subst (λ (content : List ℕ). IsStagedIn content payloads payload) (sym at.2) on.staged;
-      durable = subst (λ (content : List ℕ). Only content may_leave) (cc (kept.1, at.1)) kept.2;
+      staged = written_behind rests.content at.0 payloads payload offset (journal_at_rest rests) rests.read.place (at.2 ∙ ap (λ bytes. put_at (offset + 1) bytes rests.content) is);
+      durable = subst (λ (content : List ℕ). Only content later) (cc (kept.1, at.1)) kept.2;
     }
 
 -- The second write leaves the old payloads or the new ones.
-pub second_leaves : {seen : Option (List ℕ)} {old new : List ℕ → Type 0} {offset : ℕ} {payloads : List (List ℕ)} {payload : List ℕ} → SyncedOn seen old payloads payload → length (front_of payloads) ≡ offset → ArePayloads payloads → IsPayload payload
-    → Follows (Torn offset 1) old new → (image : List ℕ) → new image → StandsForEither payloads (payloads ++ payload ∷ []) image
-second_leaves {offset = offset} {payloads = payloads} {payload = payload} on place fit one follows image may =
-    let step = follows image may in
-    torn_gate on.content image payloads payload offset on.staged place fit one (subst (λ (i : List ℕ). Torn offset 1 i image) (on.durable step.0 step.1) step.2)
-
--- The gate is open.
-pub record OpenedOn (seen : Option (List ℕ)) (payloads : List (List ℕ)) (payload : List ℕ) : Type 0 where
-  pub content : List ℕ
-  pub behind : List ℕ
-  pub told : seen ≡ Some content
-  pub is : content ≡ front_of (payloads ++ payload ∷ []) ++ closed_gate ∷ behind
-
-pub second_writes : (old new : Option (List ℕ)) {may_leave : List ℕ → Type 0} (offset : ℕ) {payloads : List (List ℕ)} {payload : List ℕ} → SyncedOn old may_leave payloads payload → length (front_of payloads) ≡ offset
-    → WhereTold old new (λ before after. after ≡ put_at offset (open_gate ∷ []) before) → OpenedOn new payloads payload
-second_writes old new offset {payloads = payloads} {payload = payload} on place written =
-    let at = WhereTold-at (λ before after. after ≡ put_at offset (open_gate ∷ []) before) old new on.content written on.told in
-    record {
-      content = at.0;
-      behind = on.staged.behind;
-      told = at.1;
-      is = written_gate on.content at.0 payloads payload offset on.staged place at.2;
-    }
+pub second_leaves : {seen : Option (List ℕ)} {old : List ℕ → Type 0} (offset : ℕ) {payloads : List (List ℕ)} {payload : List ℕ} → StagedOn seen old payloads payload → length (front_of payloads) ≡ offset → ArePayloads payloads → IsPayload payload
+    → (image : List ℕ) → IsTornFrom old offset 1 image → StandsForEither payloads (payloads ++ payload ∷ []) image
+second_leaves offset {payloads = payloads} {payload = payload} on place fit one image torn =
+    torn_gate on.content image payloads payload offset on.staged place fit one (subst (λ (i : List ℕ). Torn offset 1 i image) (on.durable torn.0 torn.1) torn.2)
 
 length-front_of_push : (payloads : List (List ℕ)) (payload : List ℕ) (offset : ℕ) → length (front_of payloads) ≡ offset → length (front_of (payloads ++ payload ∷ [])) ≡ offset + length (staged_bytes payload)
 length-front_of_push payloads payload offset place =
     ap length (front_of-push payloads payload) ∙ length-append (front_of payloads) (open_gate ∷ body_of payload) ∙ omega (arith, length-append (body_of payload) (closed_gate ∷ []))
 
 -- The new payload is on the disk.
-pub second_syncs : (old new : Option (List ℕ)) {may_leave : List ℕ → Type 0} (offset : ℕ) {payloads : List (List ℕ)} {payload : List ℕ} (piece : List ℕ) → OpenedOn old payloads payload → piece ≡ staged_bytes payload → length (front_of payloads) ≡ offset → ArePayloads payloads → IsPayload payload
-    → WhereTold old new (λ before after. after ≡ before) → WhereTold old new (λ before after. Only after may_leave) → RestsAt new may_leave (offset + length piece) (payloads ++ payload ∷ [])
-second_syncs old new {may_leave = may_leave} offset {payloads = payloads} {payload = payload} piece on is_piece place fit one same durable =
-    let at = WhereTold-at (λ before after. after ≡ before) old new on.content same on.told in
-    let kept = WhereTold-at (λ before after. Only after may_leave) old new on.content durable on.told in
-    let front = front_of (payloads ++ payload ∷ []) in
-    let is : at.0 ≡ front ++ closed_gate ∷ on.behind = at.2 ∙ on.is in
+pub second_writes : (old new : Option (List ℕ)) {may_leave later : List ℕ → Type 0} (offset : ℕ) {payloads : List (List ℕ)} {payload : List ℕ} (piece : List ℕ) → StagedOn old may_leave payloads payload → piece ≡ staged_bytes payload → length (front_of payloads) ≡ offset → ArePayloads payloads → IsPayload payload
+    → WhereTold old new (λ before after. after ≡ put_at offset (open_gate ∷ []) before) → WhereTold old new (λ before after. Only after later) → RestsAt new later (offset + length piece) (payloads ++ payload ∷ [])
+second_writes old new {later = later} offset {payloads = payloads} {payload = payload} piece on is_piece place fit one written durable =
+    let at = WhereTold-at (λ before after. after ≡ put_at offset (open_gate ∷ []) before) old new on.content written on.told in
+    let kept = WhereTold-at (λ before after. Only after later) old new on.content durable on.told in
+    let all = payloads ++ payload ∷ [] in
+    let front = front_of all in
+    let behind = on.staged.behind in
+    let is : at.0 ≡ front ++ closed_gate ∷ behind = written_gate on.content at.0 payloads payload offset on.staged place at.2 in
     let at_gate : length front ≡ offset + length piece = length-front_of_push payloads payload offset place ∙ ap (λ bytes. offset + length bytes) (sym is_piece) in
-    let rest : drop (offset + length piece) at.0 ≡ closed_gate ∷ on.behind = ap (drop (offset + length piece)) is ∙ drop_at front (closed_gate ∷ on.behind) (offset + length piece) at_gate in
-    let long : length at.0 ≡ length front + (1 + length on.behind) = ap length is ∙ length-append front (closed_gate ∷ on.behind) ∙ omega arith in
+    let rest : drop (offset + length piece) at.0 ≡ closed_gate ∷ behind = ap (drop (offset + length piece)) is ∙ drop_at front (closed_gate ∷ behind) (offset + length piece) at_gate in
+    let long : length at.0 ≡ length front + (1 + length behind) = ap length is ∙ length-append front (closed_gate ∷ behind) ∙ omega arith in
     let far : 21 ≤ offset + length piece = omega (arith, length-front_of payloads, ap length is_piece, length-append (body_of payload) (closed_gate ∷ []), length-body_of payload) in
+    let fits : ArePayloads all = ArePayloads-push payloads payload fit one in
+    let journal : IsJournalOf at.0 all = record { gate = closed_gate; behind = behind; is = is; closed = λ e. absurd (omega arith); fit = fits } in
+    let only : Only at.0 later = subst (λ (content : List ℕ). Only content later) (cc (kept.1, at.1)) kept.2 in
     record {
       content = at.0;
       read = record {
@@ -108,15 +73,15 @@ second_syncs old new {may_leave = may_leave} offset {payloads = payloads} {paylo
         whole = λ short. absurd (omega arith);
         front = is ∙ ap (λ back. front ++ back) (sym rest);
         place = at_gate;
-        fit = ArePayloads-push payloads payload fit one;
+        fit = fits;
       };
       gate_closed = record {
         gate = closed_gate;
-        behind = on.behind;
+        behind = behind;
         is = rest;
         closed = λ e. absurd (omega arith);
       };
-      durable = subst (λ (content : List ℕ). Only content may_leave) (cc (kept.1, at.1)) kept.2;
+      durable = λ image may. subst (λ (i : List ℕ). IsJournalOf i all) (sym (only image may)) journal;
     }
 
 -- What a disk that gives the same gives.
@@ -162,17 +127,14 @@ closed_behind old new payload offset piece inside is_piece is =
 abbrev IsWritten : ℕ → List ℕ → List ℕ → List ℕ → Type 0
 IsWritten offset piece before after = after ≡ put_at offset (open_gate ∷ []) (put_at (offset + 1) piece before)
 
-pub closed_after : (a b c d e : Option (List ℕ)) (payload : List ℕ) (offset : ℕ) (piece : List ℕ) → IfSome a (λ content. offset + 1 ≤ length content) → piece ≡ staged_bytes payload
-    → WhereTold a b (λ before after. after ≡ put_at (offset + 1) piece before) → WhereTold b c (λ before after. after ≡ before)
-    → WhereTold c d (λ before after. after ≡ put_at offset (open_gate ∷ []) before) → WhereTold d e (λ before after. after ≡ before)
-    → IfSome e (λ content. HasClosedGate content (offset + length piece))
-closed_after a b c d e payload offset piece inside is_piece first second third fourth = shut a e inside all
+pub closed_after : (a b c : Option (List ℕ)) (payload : List ℕ) (offset : ℕ) (piece : List ℕ) → IfSome a (λ content. offset + 1 ≤ length content) → piece ≡ staged_bytes payload
+    → WhereTold a b (λ before after. after ≡ put_at (offset + 1) piece before) → WhereTold b c (λ before after. after ≡ put_at offset (open_gate ∷ []) before)
+    → IfSome c (λ content. HasClosedGate content (offset + length piece))
+closed_after a b c payload offset piece inside is_piece first second = shut a c inside all
   where
-    all : WhereTold a e (IsWritten offset piece)
+    all : WhereTold a c (IsWritten offset piece)
     all =
-        let written = WhereTold-then (λ before after. after ≡ put_at (offset + 1) piece before) (λ before after. after ≡ before) (λ before after. after ≡ put_at (offset + 1) piece before) a b c first second (λ x y z is same. same ∙ is) in
-        let gated = WhereTold-then (λ before after. after ≡ put_at (offset + 1) piece before) (λ before after. after ≡ put_at offset (open_gate ∷ []) before) (IsWritten offset piece) a c d written third (λ x y z is gate. gate ∙ ap (put_at offset (open_gate ∷ [])) is) in
-        WhereTold-then (IsWritten offset piece) (λ before after. after ≡ before) (IsWritten offset piece) a d e gated fourth (λ x y z is same. same ∙ is)
+        WhereTold-then (λ before after. after ≡ put_at (offset + 1) piece before) (λ before after. after ≡ put_at offset (open_gate ∷ []) before) (IsWritten offset piece) a b c first second (λ x y z is gate. gate ∙ ap (put_at offset (open_gate ∷ [])) is)
 
     shut : (seen now : Option (List ℕ)) → IfSome seen (λ content. offset + 1 ≤ length content) → WhereTold seen now (IsWritten offset piece) → IfSome now (λ content. HasClosedGate content (offset + length piece))
     shut None None inside told = tt

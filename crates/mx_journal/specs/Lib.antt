@@ -1,6 +1,7 @@
 pub mod Image
 pub mod Fault
+pub mod Calls
 pub mod Journal
-pub mod Reading
-pub mod Kept
+pub mod NextRecord
+pub mod Held
 pub mod Opening

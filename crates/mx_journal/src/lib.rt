@@ -18,6 +18,7 @@ mod read;
 mod stage;
 #[cfg(test)]
 mod tests;
+mod write;
 
 pub use error::{CommitError, JournalError, OpenError, StageError};
 pub use journal::Journal;

@@ -1,32 +1,42 @@
 //! Making a journal of what a disk holds.
-ghost use Rattle.std.specs.Prelude.{◌≡◌, ◌≢◌, ◌+◌, ◌<◌, ◌≤◌, ◌↔◌, List, ℕ, length, take, IfOk, OnOk, OnErr, IsErrOf, IsTrue, IfSome, Some};
-ghost use Rattle.mx_outside.specs.Told.{Rose};
-ghost use Rattle.mx_outside.specs.Disk.{Only, LeavesOnly};
+ghost use Rattle.std.specs.Prelude.{◌≡◌, ◌≢◌, ◌+◌, ◌<◌, ◌≤◌, ◌↔◌, ◌⊎◌, List, ℕ, length, take, IfOk, IfErr, OnOk, IsErrOf, IsTrue, IfSome, Some};
+ghost use Rattle.mx_outside.specs.Disk.{Only, LeavesOnly, CountsFaults};
+ghost use Rattle.mx_journal.specs.Calls.{OnlyReads, CountsDiskFaults};
+ghost use Rattle.mx_journal.specs.Fault.{LacksHeader};
 ghost use Rattle.mx_journal.specs.Image.{header, empty_journal};
-ghost use Rattle.mx_journal.specs.Reading.{OnlyReads};
+ghost use Rattle.mx_journal.specs.Journal.{IsWhole};
 ghost use Rattle.mx_journal.specs.Opening.{IsLeftByOpening};
 
 use crate::JournalError;
 use crate::format::{CLOSED_GATE, EMPTY_JOURNAL, HEADER};
 use crate::read::read_gate;
+use crate::write::write_through;
 use mx_outside::{Disk, Failed};
 
 /// Makes sure that a journal begins here: tests a long disk for the header, and writes a short one.
 pub(crate) fn begin<D: Disk>(disk: &mut D) -> Result<(), JournalError>
     ensures short { (content : List ℕ) → D.seen disk.old ≡ Some content → length content ≤ 17
         → OnOk result (D.seen disk.new ≡ Some empty_journal) }
-    ensures long { (content : List ℕ) → D.seen disk.old ≡ Some content → 17 < length content → OnOk result (take 16 content ≡ header) }
-    ensures unwritten { (content : List ℕ) → D.seen disk.old ≡ Some content → 17 < length content → D.seen disk.new ≡ Some content }
-    ensures durable { (content : List ℕ) → D.seen disk.old ≡ Some content → Only content (D.may_leave disk.old)
+    ensures long { (content : List ℕ) → D.seen disk.old ≡ Some content → 17 < length content
+        → OnOk result (take 16 content ≡ header) }
+    ensures only_reads { (content : List ℕ) → D.seen disk.old ≡ Some content → IsWhole content
+        → OnlyReads D.same_disk D.seen D.may_leave D.moment D.left_since disk.old disk.new }
+    ensures durable { (content : List ℕ)
+        → D.seen disk.old ≡ Some content → Only content (D.may_leave disk.old)
         → OnOk result (IfSome (D.seen disk.new) (λ now. Only now (D.may_leave disk.new))) }
-    ensures any_moment { (content : List ℕ) → D.seen disk.old ≡ Some content → Only content (D.may_leave disk.old)
+    ensures any_moment { (content : List ℕ)
+        → D.seen disk.old ≡ Some content → Only content (D.may_leave disk.old)
         → LeavesOnly D.moment D.left_since disk.old disk.new (IsLeftByOpening content) }
-    ensures not_a_journal { (content : List ℕ) (offset : ℕ) → D.seen disk.old ≡ Some content → IsErrOf result (JournalError.NotAJournal offset)
-        → (17 < length content) × (take 16 content ≢ header) × (offset ≡ 0) }
+    ensures possible { OnOk result (IfSome (D.seen disk.new) (D.may_leave disk.new)) }
+    ensures remains { IfSome (D.seen disk.old) (D.may_leave disk.old)
+        → IfSome (D.seen disk.new) (D.may_leave disk.new) }
+    ensures not_a_journal { (content : List ℕ) (offset : ℕ)
+        → D.seen disk.old ≡ Some content → IsErrOf result (JournalError.NotAJournal offset)
+        → (17 < length content) × LacksHeader content offset }
+    ensures causes { IfErr result (λ cause.
+        (cause ≡ JournalError.NotAJournal 0) ⊎ (cause ≡ JournalError.DiskFault)) }
     ensures stays { D.same_disk disk.old disk.new }
-    ensures count { D.faults disk.old ≤ D.faults disk.new }
-    ensures fault { IsErrOf result JournalError.DiskFault → Rose (D.faults disk.old) (D.faults disk.new) }
-    ensures memory { IsErrOf result JournalError.OutOfMemory → ⊥ }
+    ensures counts { CountsDiskFaults result (D.faults disk.old) (D.faults disk.new) }
 {
     let size = disk.len()?;
     if size > 17 {
@@ -41,9 +51,11 @@ pub(crate) fn begin<D: Disk>(disk: &mut D) -> Result<(), JournalError>
 
 fn has_header<D: Disk>(disk: &mut D) -> Result<bool, Failed>
     requires { IfSome (D.seen disk.old) (λ content. 16 ≤ length content) }
-    ensures value { (content : List ℕ) → D.seen disk.old ≡ Some content → IfOk result (λ has. IsTrue has ↔ (take 16 content ≡ header)) }
-    ensures only_reads { OnlyReads D.same_disk D.seen D.may_leave D.moment D.left_since D.faults disk.old disk.new }
-    ensures fault { OnErr result (Rose (D.faults disk.old) (D.faults disk.new)) }
+    ensures value { (content : List ℕ) → D.seen disk.old ≡ Some content
+        → IfOk result (λ has. IsTrue has ↔ (take 16 content ≡ header)) }
+    ensures only_reads { OnlyReads D.same_disk D.seen D.may_leave D.moment D.left_since
+        disk.old disk.new }
+    ensures counts { CountsFaults result (D.faults disk.old) (D.faults disk.new) }
 {
     let mut front = [0u8; 16];
     disk.read(0, &mut front)?;
@@ -53,9 +65,11 @@ fn has_header<D: Disk>(disk: &mut D) -> Result<bool, Failed>
 fn is_empty_journal<D: Disk>(disk: &mut D, size: u64) -> Result<bool, Failed>
     requires sized { IfSome (D.seen disk.old) (λ content. size ≡ length content) }
     requires short { size ≤ 17 }
-    ensures value { (content : List ℕ) → D.seen disk.old ≡ Some content → IfOk result (λ is. IsTrue is ↔ (content ≡ empty_journal)) }
-    ensures only_reads { OnlyReads D.same_disk D.seen D.may_leave D.moment D.left_since D.faults disk.old disk.new }
-    ensures fault { OnErr result (Rose (D.faults disk.old) (D.faults disk.new)) }
+    ensures value { (content : List ℕ) → D.seen disk.old ≡ Some content
+        → IfOk result (λ is. IsTrue is ↔ (content ≡ empty_journal)) }
+    ensures only_reads { OnlyReads D.same_disk D.seen D.may_leave D.moment D.left_since
+        disk.old disk.new }
+    ensures counts { CountsFaults result (D.faults disk.old) (D.faults disk.new) }
 {
     if size < 17 {
         return Ok(false);
@@ -69,14 +83,16 @@ fn is_empty_journal<D: Disk>(disk: &mut D, size: u64) -> Result<bool, Failed>
 fn write_empty_journal<D: Disk>(disk: &mut D) -> Result<(), Failed>
     ensures written { (content : List ℕ) → D.seen disk.old ≡ Some content → length content ≤ 17
         → OnOk result (D.seen disk.new ≡ Some empty_journal) }
-    ensures durable { (content : List ℕ) → D.seen disk.old ≡ Some content → OnOk result (IfSome (D.seen disk.new) (λ now. Only now (D.may_leave disk.new))) }
-    ensures any_moment { (content : List ℕ) → D.seen disk.old ≡ Some content → length content ≤ 17 → Only content (D.may_leave disk.old)
+    ensures durable { (content : List ℕ) → D.seen disk.old ≡ Some content
+        → OnOk result (IfSome (D.seen disk.new) (λ now. Only now (D.may_leave disk.new))) }
+    ensures any_moment { (content : List ℕ)
+        → D.seen disk.old ≡ Some content → length content ≤ 17 → Only content (D.may_leave disk.old)
         → LeavesOnly D.moment D.left_since disk.old disk.new (λ image. length image ≤ 17) }
+    ensures remains { IfSome (D.seen disk.old) (D.may_leave disk.old)
+        → IfSome (D.seen disk.new) (D.may_leave disk.new) }
     ensures stays { D.same_disk disk.old disk.new }
-    ensures count { D.faults disk.old ≤ D.faults disk.new }
-    ensures fault { OnErr result (Rose (D.faults disk.old) (D.faults disk.new)) }
+    ensures counts { CountsFaults result (D.faults disk.old) (D.faults disk.new) }
 {
-    disk.write_at(0, &EMPTY_JOURNAL)?;
-    disk.sync()?;
+    write_through(disk, 0, &EMPTY_JOURNAL)?;
     Ok(())
 }

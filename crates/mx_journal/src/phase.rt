@@ -8,11 +8,11 @@ pub enum Phase {
     /// All payloads were read, and another may be committed.
     Writing,
     /// A commit failed, and none may follow.
-    Closed,
+    Failed,
 }
 
 impl Phase {
-    ghost use Rattle.mx_journal.specs.Reading.{phase_at_end};
+    ghost use Rattle.mx_journal.specs.NextRecord.{phase_at_end};
 
     /// The phase once the first gate that isn't open was read.
     pub(crate) fn at_end(self) -> Phase
@@ -20,7 +20,7 @@ impl Phase {
     {
         match self {
             Phase::Reading | Phase::Writing => Phase::Writing,
-            Phase::Closed => Phase::Closed,
+            Phase::Failed => Phase::Failed,
         }
     }
 }

@@ -1,9 +1,10 @@
 //! Reading one record at its gate.
-ghost use Rattle.std.specs.Prelude.{◌≡◌, ◌+◌, ◌<◌, ◌≤◌, ◌^◌, List, ℕ, length, take, drop, slice_index, vec_len, IfOk, OnOk, OnErr, IsErrOf, IfSome, MatchOption, true};
-ghost use Rattle.mx_outside.specs.Told.{Rose};
+ghost use Rattle.std.specs.Prelude.{◌≡◌, ◌+◌, ◌<◌, ◌≤◌, ◌^◌, List, ℕ, length, take, drop, slice_index, vec_len, IfOk, OnOk, IfSome, MatchOption, true};
+ghost use Rattle.mx_outside.specs.Disk.{CountsFaults};
 ghost use Rattle.mx_journal.specs.Image.{number_bytes};
+ghost use Rattle.mx_journal.specs.Calls.{OnlyReads, CountsDiskFaults};
 ghost use Rattle.mx_journal.specs.Fault.{LacksBody, HasBodyOf};
-ghost use Rattle.mx_journal.specs.Reading.{OnlyReads, Found};
+ghost use Rattle.mx_journal.specs.NextRecord.{Found};
 
 use crate::JournalError;
 use crate::format::{OPEN_GATE, PAYLOAD_LIMIT};
@@ -16,9 +17,11 @@ pub(crate) fn read_record<D: Disk>(
     out: &mut Vec<u8>,
 ) -> Result<bool, JournalError>
     requires { gate < 2 ^ 63 }
-    ensures found { (content : List ℕ) → D.seen disk.old ≡ Some content → Found result content gate out.new.items }
-    ensures only_reads { OnlyReads D.same_disk D.seen D.may_leave D.moment D.left_since D.faults disk.old disk.new }
-    ensures fault { IsErrOf result JournalError.DiskFault → Rose (D.faults disk.old) (D.faults disk.new) }
+    ensures found { (content : List ℕ) → D.seen disk.old ≡ Some content
+        → Found result content gate out.new.items }
+    ensures only_reads { OnlyReads D.same_disk D.seen D.may_leave D.moment D.left_since
+        disk.old disk.new }
+    ensures counts { CountsDiskFaults result (D.faults disk.old) (D.faults disk.new) }
     ensures bounded { result ≡ Ok true → gate + 5 + length out.new.items < 2 ^ 63 }
 {
     let size = disk.len()?;
@@ -38,9 +41,11 @@ pub(crate) fn read_record<D: Disk>(
 
 pub(crate) fn read_gate<D: Disk>(disk: &mut D, at: u64) -> Result<u8, Failed>
     requires { IfSome (D.seen disk.old) (λ content. at + 1 ≤ length content) }
-    ensures value { (content : List ℕ) → D.seen disk.old ≡ Some content → IfOk result (λ gate. gate ≡ slice_index content at) }
-    ensures only_reads { OnlyReads D.same_disk D.seen D.may_leave D.moment D.left_since D.faults disk.old disk.new }
-    ensures fault { OnErr result (Rose (D.faults disk.old) (D.faults disk.new)) }
+    ensures value { (content : List ℕ) → D.seen disk.old ≡ Some content
+        → IfOk result (λ gate. gate ≡ slice_index content at) }
+    ensures only_reads { OnlyReads D.same_disk D.seen D.may_leave D.moment D.left_since
+        disk.old disk.new }
+    ensures counts { CountsFaults result (D.faults disk.old) (D.faults disk.new) }
 {
     let mut gate = [0u8; 1];
     disk.read(at, &mut gate)?;
@@ -52,10 +57,12 @@ fn read_length<D: Disk>(disk: &mut D, at: u64, size: u64) -> Result<Option<u32>,
     requires sized { IfSome (D.seen disk.old) (λ content. size ≡ length content) }
     requires inside { at ≤ size }
     ensures value { (content : List ℕ) → D.seen disk.old ≡ Some content
-        → IfOk result (λ length. MatchOption length (LacksBody (drop at content)) (HasBodyOf (drop at content))) }
+        → IfOk result (λ length. MatchOption length
+        (LacksBody (drop at content)) (HasBodyOf (drop at content))) }
     ensures bounded { IfOk result (λ length. IfSome length (λ n. at + 4 + n ≤ size)) }
-    ensures only_reads { OnlyReads D.same_disk D.seen D.may_leave D.moment D.left_since D.faults disk.old disk.new }
-    ensures fault { OnErr result (Rose (D.faults disk.old) (D.faults disk.new)) }
+    ensures only_reads { OnlyReads D.same_disk D.seen D.may_leave D.moment D.left_since
+        disk.old disk.new }
+    ensures counts { CountsFaults result (D.faults disk.old) (D.faults disk.new) }
 {
     let left = size - at;
     if left < 4 {
@@ -70,10 +77,12 @@ fn read_length<D: Disk>(disk: &mut D, at: u64, size: u64) -> Result<Option<u32>,
 
 fn read_number<D: Disk>(disk: &mut D, at: u64) -> Result<u32, Failed>
     requires { IfSome (D.seen disk.old) (λ content. at + 4 ≤ length content) }
-    ensures value { (content : List ℕ) → D.seen disk.old ≡ Some content → IfOk result (λ n. number_bytes n ≡ take 4 (drop at content)) }
+    ensures value { (content : List ℕ) → D.seen disk.old ≡ Some content
+        → IfOk result (λ n. number_bytes n ≡ take 4 (drop at content)) }
     ensures bounded { IfOk result (λ n. n < 2 ^ 32) }
-    ensures only_reads { OnlyReads D.same_disk D.seen D.may_leave D.moment D.left_since D.faults disk.old disk.new }
-    ensures fault { OnErr result (Rose (D.faults disk.old) (D.faults disk.new)) }
+    ensures only_reads { OnlyReads D.same_disk D.seen D.may_leave D.moment D.left_since
+        disk.old disk.new }
+    ensures counts { CountsFaults result (D.faults disk.old) (D.faults disk.new) }
 {
     let mut bytes = [0u8; 4];
     disk.read(at, &mut bytes)?;
@@ -91,10 +100,12 @@ fn number_of(bytes: &[u8]) -> u32
 /// Fills `out` with the bytes from here on.
 fn read_payload<D: Disk>(disk: &mut D, at: u64, out: &mut Vec<u8>) -> Result<(), Failed>
     requires { IfSome (D.seen disk.old) (λ content. at + vec_len out.old ≤ length content) }
-    ensures bytes { (content : List ℕ) → D.seen disk.old ≡ Some content → OnOk result (out.new.items ≡ take (vec_len out.old) (drop at content)) }
+    ensures bytes { (content : List ℕ) → D.seen disk.old ≡ Some content
+        → OnOk result (out.new.items ≡ take (vec_len out.old) (drop at content)) }
     ensures len { vec_len out.new ≡ vec_len out.old }
-    ensures only_reads { OnlyReads D.same_disk D.seen D.may_leave D.moment D.left_since D.faults disk.old disk.new }
-    ensures fault { OnErr result (Rose (D.faults disk.old) (D.faults disk.new)) }
+    ensures only_reads { OnlyReads D.same_disk D.seen D.may_leave D.moment D.left_since
+        disk.old disk.new }
+    ensures counts { CountsFaults result (D.faults disk.old) (D.faults disk.new) }
 {
     disk.read(at, out.as_mut_slice())?;
     Ok(())

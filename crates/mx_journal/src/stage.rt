@@ -1,15 +1,15 @@
 //! Putting a record together.
 ghost use Rattle.std.specs.Prelude.{◌≡◌, ◌+◌, ◌<◌, ◌≤◌, ◌++◌, length, vec_len, vec_capacity, OnOk};
 ghost use Rattle.mx_journal.specs.Image.{payload_limit};
-ghost use Rattle.mx_journal.specs.Kept.{staged_bytes};
+ghost use Rattle.mx_journal.specs.Held.{staged_bytes};
 
 use crate::format::CLOSED_GATE;
 use std::alloc::AllocError;
 
 /// Takes the memory for this many bytes in all.
-pub(crate) fn make_room(staged: &mut Vec<u8>, size: usize) -> Result<(), AllocError>
+pub(crate) fn reserve_to(staged: &mut Vec<u8>, size: usize) -> Result<(), AllocError>
     ensures items { staged.new.items ≡ staged.old.items }
-    ensures room { OnOk result (size ≤ vec_capacity staged.new) }
+    ensures reserved { OnOk result (size ≤ vec_capacity staged.new) }
 {
     staged.reserve(size.saturating_sub(staged.len()))
 }
@@ -17,7 +17,7 @@ pub(crate) fn make_room(staged: &mut Vec<u8>, size: usize) -> Result<(), AllocEr
 /// Writes the body of a record and a closed gate in the place of what was staged.
 pub(crate) fn put_record(staged: &mut Vec<u8>, payload: &[u8])
     requires short { length payload.now ≤ payload_limit }
-    requires room { length payload.now + 5 ≤ vec_capacity staged.old }
+    requires fits { length payload.now + 5 ≤ vec_capacity staged.old }
     ensures { staged.new.items ≡ staged_bytes payload.now }
 {
     staged.clear();

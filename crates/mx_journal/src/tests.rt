@@ -128,11 +128,11 @@ fn committed(
         return Err("one payload".into());
     }
     if journal.stage(b"two").is_err() {
-        return Err("no room".into());
+        return Err("no memory".into());
     }
     let first = journal.commit();
     if journal.stage(b"three").is_err() {
-        return Err("no room".into());
+        return Err("no memory".into());
     }
     if first.is_err() && journal.commit() != Err(CommitError::Closed) {
         return Err("not closed".into());
@@ -181,7 +181,7 @@ fn added(alloc: Global, payload: &[u8]) -> Result<(Option<StageError>, MemoryDis
         return Err("no payload".into());
     }
     if journal.stage(b"replaced").is_err() {
-        return Err("no room".into());
+        return Err("no memory".into());
     }
     let answer = journal.stage(payload);
     if journal.commit().is_err() {

@@ -19,3 +19,13 @@ pub record Covers (budget : Budget) (count : ℕ) : Type 0 where
 pub record SpendsAtMost (count : ℕ) (old new : Budget) : Type 0 where
   pub bytes : old.bytes ≤ new.bytes + count
   pub calls : old.calls ≤ new.calls + 1
+
+-- So many calls of so many bytes in all are within it.
+pub record CoversCalls (budget : Budget) (calls count : ℕ) : Type 0 where
+  pub bytes : count ≤ budget.bytes
+  pub enough : calls ≤ budget.calls
+
+-- Several calls took no more of it than so many calls and bytes in all.
+pub record SpendsCalls (calls count : ℕ) (old new : Budget) : Type 0 where
+  pub bytes : old.bytes ≤ new.bytes + count
+  pub number : old.calls ≤ new.calls + calls

@@ -46,7 +46,7 @@ pub returns-in_err-read_payload-clause-only_reads : goal.returns-in_err-read_pay
 returns-in_err-read_payload-clause-only_reads g c =
     let disk = c.args.disk.now in
     let then = g.met.D.Disk.same_disk_then in
-    let sized = OnlyReads-call disk c.len.new.self (g.met.D.Disk.only_now disk) c.len.ensures.stays c.len.ensures.same c.len.ensures.crash c.len.ensures.time c.len.ensures.count in
+    let sized = OnlyReads-call disk c.len.new.self (g.met.D.Disk.only_now disk) c.len.ensures.stays c.len.ensures.same c.len.ensures.crash c.len.ensures.time c.len.ensures.remains in
     let gated = OnlyReads-then disk c.len.new.self c.read_gate.new.disk (then _ _ _) sized c.read_gate.ensures.only_reads in
     let measured = OnlyReads-then disk c.read_gate.new.disk c.read_length.new.disk (then _ _ _) gated c.read_length.ensures.only_reads in
     OnlyReads-then disk c.read_length.new.disk c.read_payload.new.disk (then _ _ _) measured c.read_payload.ensures.only_reads
@@ -55,7 +55,7 @@ pub returns-clause-only_reads : goal.returns-clause-only_reads
 returns-clause-only_reads g c =
     let disk = c.args.disk.now in
     let then = g.met.D.Disk.same_disk_then in
-    let sized = OnlyReads-call disk c.len.new.self (g.met.D.Disk.only_now disk) c.len.ensures.stays c.len.ensures.same c.len.ensures.crash c.len.ensures.time c.len.ensures.count in
+    let sized = OnlyReads-call disk c.len.new.self (g.met.D.Disk.only_now disk) c.len.ensures.stays c.len.ensures.same c.len.ensures.crash c.len.ensures.time c.len.ensures.remains in
     let gated = OnlyReads-then disk c.len.new.self c.read_gate.new.disk (then _ _ _) sized c.read_gate.ensures.only_reads in
     let measured = OnlyReads-then disk c.read_gate.new.disk c.read_length.new.disk (then _ _ _) gated c.read_length.ensures.only_reads in
     OnlyReads-then disk c.read_length.new.disk c.read_payload.new.disk (then _ _ _) measured c.read_payload.ensures.only_reads

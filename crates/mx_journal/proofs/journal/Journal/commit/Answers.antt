@@ -3,7 +3,7 @@ use Rattle.std.proofs.Common.{◌<◌, [], ◌∷◌, ◌++◌, length, sym, ◌
 use Rattle.mx_outside.specs.Disk.{LeavesOnly}
 use Rattle.mx_journal.specs.Image.{StandsForEither}
 use Rattle.mx_journal.specs.Journal.{Opened, Rests}
-use Rattle.mx_journal.specs.Kept.{payload_in}
+use Rattle.mx_journal.specs.Held.{payload_in}
 use Rattle.mx_journal.proofs.Staged.{IsStaged-some}
 use Rattle.mx_journal.proofs.journal.Journal.commit.Goals as goal
 

@@ -1,15 +1,14 @@
 -- What stands at the gate says what was read, and what the disk holds.
-use Rattle.std.proofs.Common.{◌≡◌, ◌⊎◌, ◌+◌, ◌∙◌, Some, Bool, Result, Ok, Err, true, false, drop, ℕ, sym, subst, arith, rules}
+use Rattle.std.proofs.Common.{◌≡◌, ◌⊎◌, ◌+◌, ◌∙◌, [], ◌∷◌, ◌++◌, List, Some, Bool, Result, Ok, Err, true, false, drop, ℕ, ap, sym, subst, arith, rules}
 use denote.Enum.Bare.{same_true}
-use Rattle.mx_outside.specs.Disk.{Only}
 use Rattle.mx_journal.specs.contracts.phase.Phase.{the_type}
 use Rattle.mx_journal.specs.declared.error.JournalError.{JournalError}
 use Rattle.mx_journal.specs.declared.error.JournalError.TheVariants.{NotAJournal, DiskFault}
 use Rattle.mx_journal.specs.Fault.{IsFaultyGate}
-use Rattle.mx_journal.specs.Reading.{Found}
-use Rattle.mx_journal.specs.Journal.{Opened, HasRead, HasClosedGate}
+use Rattle.mx_journal.specs.NextRecord.{Found, BeginsWith}
+use Rattle.mx_journal.specs.Journal.{Opened, ReadTo, HasRead, HasClosedGate, LeavesAlike}
 use Rattle.mx_journal.proofs.Images.{fault_stands_for_none, one_fault}
-use Rattle.mx_journal.proofs.Gates.{ReadTo-more, stands_all, RestsAt-read, HasFaultyGateAt-read, IsNotAJournalAt-read, Found-fault, Found-closed, Found-faulty}
+use Rattle.mx_journal.proofs.Gates.{ReadTo-more, stands_all, RestsAt-read, begins_with_read, HasFaultyGateAt-read, IsNotAJournalAt-read, Found-fault, Found-other, Found-closed, Found-faulty}
 use Rattle.mx_journal.proofs.Steps.{IfSome-at, IfSome-same, told_same}
 use Rattle.mx_journal.proofs.journal.Journal.next_record.Goals as goal
 
@@ -26,7 +25,8 @@ AnswersFault result gate = (result ≡ Err (NotAJournal gate)) ⊎ (result ≡ E
 pub returns-in-Ok-true-clause-found : goal.returns-in-Ok-true-clause-found
 returns-in-Ok-true-clause-found g c = λ content told.
     let inside = subst (λ (j : Opened g.row.D.Denot). g.D.Disk.seen j.disk ≡ Some content) (sym c.self.view_is) told in
-    subst (λ (j : Opened g.row.D.Denot). Found (Ok true) content j.gate c.read_record.new.out.items) c.self.view_is (rw c.in-Ok-true.field-0-test at (c.in-Ok-true.ensures.found content inside))
+    let found = subst (λ (j : Opened g.row.D.Denot). Found (Ok true) content j.gate c.read_record.new.out.items) c.self.view_is (rw c.in-Ok-true.field-0-test at (c.in-Ok-true.ensures.found content inside)) in
+    subst (λ (out : List ℕ). Found (Ok true) content c.args.self.now.gate out) (sym (ap (λ (v : _). v.items) c.swap.ensures.x_after)) found
 
 pub returns-in-Ok-true-clause-end : goal.returns-in-Ok-true-clause-end
 returns-in-Ok-true-clause-end g c = λ content told closed.
@@ -56,7 +56,7 @@ returns-in-Ok-false-clause-faulty g c = λ content told faulty.
 pub returns-in-Err-clause-found : goal.returns-in-Err-clause-found
 returns-in-Err-clause-found g c = λ content told.
     let inside = subst (λ (j : Opened g.row.D.Denot). g.D.Disk.seen j.disk ≡ Some content) (sym c.self.view_is) told in
-    subst (λ (j : Opened g.row.D.Denot). Found (Err c.in-Err.cause) content j.gate c.read_record.new.out.items) c.self.view_is (c.in-Err.ensures.found content inside)
+    Found-other c.in-Err.cause content c.args.self.now.gate c.read_record.new.out.items _ (subst (λ (j : Opened g.row.D.Denot). Found (Err c.in-Err.cause) content j.gate c.read_record.new.out.items) c.self.view_is (c.in-Err.ensures.found content inside))
 
 pub returns-in-Err-clause-end : goal.returns-in-Err-clause-end
 returns-in-Err-clause-end g c = λ content told closed.
@@ -79,14 +79,22 @@ pub returns-in-Ok-true-clause-payload : goal.returns-in-Ok-true-clause-payload
 returns-in-Ok-true-clause-payload g c = λ content payloads read is.
     let inside = subst (λ (j : Opened g.row.D.Denot). HasRead g.D.Disk.seen j content payloads) (sym c.self.view_is) read in
     let here = rw c.in-Ok-true.field-0-test at (c.in-Ok-true.ensures.found content inside.told) in
-    ReadTo-more (g.D.Disk.seen c.read_record.new.disk) c.read_record.new.out.items (c.self.inside.gate + (5 + c.len.result)) inside here (told_same _ _ content c.read_record.ensures.only_reads.same inside.told) (omega (arith, c.len.ensures))
+    let more = ReadTo-more (g.D.Disk.seen c.read_record.new.disk) c.read_record.new.out.items (c.self.inside.gate + (5 + c.len.result)) inside here (told_same _ _ content c.read_record.ensures.only_reads.same inside.told) (omega (arith, c.len.ensures)) in
+    subst (λ (out : List ℕ). ReadTo (g.D.Disk.seen c.read_record.new.disk) (c.self.inside.gate + (5 + c.len.result)) content (payloads ++ out ∷ [])) (sym (ap (λ (v : _). v.items) c.swap.ensures.x_after)) more
+
+pub returns-in-Ok-true-clause-front : goal.returns-in-Ok-true-clause-front
+returns-in-Ok-true-clause-front g c = λ content payloads others read is stands.
+    let inside = subst (λ (j : Opened g.row.D.Denot). HasRead g.D.Disk.seen j content payloads) (sym c.self.view_is) read in
+    let here = rw c.in-Ok-true.field-0-test at (c.in-Ok-true.ensures.found content inside.told) in
+    let more = ReadTo-more (g.D.Disk.seen c.read_record.new.disk) c.read_record.new.out.items (c.self.inside.gate + (5 + c.len.result)) inside here (told_same _ _ content c.read_record.ensures.only_reads.same inside.told) (omega (arith, c.len.ensures)) in
+    subst (λ (out : List ℕ). BeginsWith others (payloads ++ out ∷ [])) (sym (ap (λ (v : _). v.items) c.swap.ensures.x_after)) (begins_with_read others more stands)
 
 pub returns-in-Ok-false-clause-rests : goal.returns-in-Ok-false-clause-rests
-returns-in-Ok-false-clause-rests g c = λ content payloads read only is.
+returns-in-Ok-false-clause-rests g c = λ content payloads read alike is.
     let inside = subst (λ (j : Opened g.row.D.Denot). HasRead g.D.Disk.seen j content payloads) (sym c.self.view_is) read in
-    let durable = subst (λ (j : Opened g.row.D.Denot). Only content (g.D.Disk.may_leave j.disk)) (sym c.self.view_is) only in
+    let before = subst (λ (j : Opened g.row.D.Denot). LeavesAlike content payloads (g.D.Disk.may_leave j.disk)) (sym c.self.view_is) alike in
     let closed = rw c.in-Ok-false.field-0-test at (c.in-Ok-false.ensures.found content inside.told) in
-    RestsAt-read (g.D.Disk.seen c.read_record.new.disk) inside closed (told_same _ _ content c.read_record.ensures.only_reads.same inside.told) (λ image may. durable image ((c.read_record.ensures.only_reads.images image).0 may))
+    RestsAt-read (g.D.Disk.seen c.read_record.new.disk) inside closed (told_same _ _ content c.read_record.ensures.only_reads.same inside.told) before (λ image may. (c.read_record.ensures.only_reads.images image).0 may)
 
 pub returns-in-Ok-false-clause-stands : goal.returns-in-Ok-false-clause-stands
 returns-in-Ok-false-clause-stands g c = λ content payloads others read is.

@@ -27,13 +27,12 @@ returns-in-Err-clause-any_moment g c = λ content payloads told only stands.
 
 pub returns-in-Err-clause-not_a_journal : goal.returns-in-Err-clause-not_a_journal
 returns-in-Err-clause-not_a_journal g c = λ content offset told is.
-    let fault = c.in-Err.ensures.not_a_journal content offset told (ap Err is) in
-    (fault.0, inl (record { differs = fault.1; first = fault.2 }))
+    c.in-Err.ensures.not_a_journal content offset told (ap Err is)
 
 pub returns-in-Err-clause-stands_for_none : goal.returns-in-Err-clause-stands_for_none
 returns-in-Err-clause-stands_for_none g c = λ content offset told is payloads stands.
     let fault = c.in-Err.ensures.not_a_journal content offset told (ap Err is) in
-    fault_stands_for_none content offset payloads (fault.0, inl (record { differs = fault.1; first = fault.2 })) stands
+    fault_stands_for_none content offset payloads (fault.0, inl fault.1) stands
 
 pub returns-in-Ok-clause-one_list : goal.returns-in-Ok-clause-one_list
 returns-in-Ok-clause-one_list g c = stands_for_one

@@ -1,7 +1,7 @@
 -- The payload that was put is the one that is staged.
 use Rattle.std.proofs.Common.{◌≡◌, ap, ◌∙◌}
 use Rattle.mx_journal.specs.Journal.{Opened}
-use Rattle.mx_journal.specs.Kept.{payload_in}
+use Rattle.mx_journal.specs.Held.{payload_in}
 use Rattle.mx_journal.proofs.Staged.{payload_in-staged, IsStaged-put}
 use Rattle.mx_journal.proofs.journal.Journal.stage.Goals as goal
 

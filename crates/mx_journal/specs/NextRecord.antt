@@ -1,23 +1,12 @@
 -- How a journal is read on: ours.
-use Rattle.std.specs.Prelude.{◌≡◌, ◌+◌, ◌≤◌, Bool, true, false, ℕ, List, ◌∷◌, ◌++◌, Option, Result, Ok, Err, length, drop}
-use Rattle.mx_outside.specs.Told.{WhereTold}
-use Rattle.mx_outside.specs.Disk.{SameImages, LeavesOnly}
+use Rattle.std.specs.Prelude.{◌≡◌, ◌+◌, Bool, true, false, ℕ, List, ◌∷◌, ◌++◌, Result, Ok, Err, length, drop}
 use Rattle.mx_journal.specs.declared.error.JournalError.{JournalError}
 use Rattle.mx_journal.specs.declared.error.JournalError.TheVariants.{NotAJournal, DiskFault, OutOfMemory}
 use Rattle.mx_journal.specs.declared.phase.Phase.{Phase}
-use Rattle.mx_journal.specs.declared.phase.Phase.TheVariants.{Reading, Writing, Closed}
+use Rattle.mx_journal.specs.declared.phase.Phase.TheVariants.{Reading, Writing, Failed}
 use Rattle.mx_journal.specs.Image.{open_gate, IsPayload, body_of}
 use Rattle.mx_journal.specs.Fault.{IsFaultyGate}
 use Rattle.mx_journal.specs.Journal.{HasClosedGate}
-
--- A disk was read and not written: it is the same, it gives the same, a crash now may leave the same, and a crash
--- on the way left nothing else.
-pub record OnlyReads {D : Type 0} (same_disk : D → D → Type 0) (seen : D → Option (List ℕ)) (may_leave : D → List ℕ → Type 0) (moment : D → ℕ) (left_since : D → ℕ → List ℕ → Type 0) (faults : D → ℕ) (old new : D) : Type 0 where
-  pub stays : same_disk old new
-  pub same : WhereTold (seen old) (seen new) (λ before after. after ≡ before)
-  pub images : SameImages (may_leave old) (may_leave new)
-  pub any_moment : LeavesOnly moment left_since old new (may_leave old)
-  pub count : faults old ≤ faults new
 
 -- A record stands here: an open gate, and the body of a payload.
 pub record HasRecord (content : List ℕ) (offset : ℕ) (payload : List ℕ) : Type 0 where
@@ -37,10 +26,14 @@ Found (Err OutOfMemory) content offset payload = (longer : List ℕ) × HasRecor
 abbrev pub phase_at_end : Phase → Phase
 phase_at_end Reading = Writing
 phase_at_end Writing = Writing
-phase_at_end Closed = Closed
+phase_at_end Failed = Failed
 
 -- The phase after a call that reads on.
 abbrev pub phase_after_reading : Result Bool JournalError → Phase → Phase
 phase_after_reading (Ok true) phase = phase
 phase_after_reading (Ok false) phase = phase_at_end phase
 phase_after_reading (Err cause) phase = phase
+
+-- The first of these payloads are those.
+abbrev pub BeginsWith : List (List ℕ) → List (List ℕ) → Type 0
+BeginsWith payloads front = (more : List (List ℕ)) × (payloads ≡ front ++ more)
