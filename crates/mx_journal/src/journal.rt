@@ -108,6 +108,9 @@ impl<D: Disk> Journal<D> {
             (λ error. error.cause ≢ JournalError.DiskFault
             → D.faults error.disk ≡ D.faults disk) }
         ensures count { D.faults disk ≤ D.faults (disk_after result) }
+        ensures within { CoversCalls (D.budget disk) 5 17
+            → IfErr result (λ error. error.cause ≢ JournalError.DiskFault) }
+        ensures spends { SpendsCalls 5 17 (D.budget disk) (D.budget (disk_after result)) }
         ensures stays { D.same_disk disk (disk_after result) }
 
         // An image stands for one list of payloads at most.
@@ -186,6 +189,9 @@ impl<D: Disk> Journal<D> {
             self.old.disk self.new.disk }
         ensures counts { CountsDiskFaults result
             (D.faults self.old.disk) (D.faults self.new.disk) }
+        ensures within { CoversCalls (D.budget self.old.disk) 4 0
+            → result ≢ Err JournalError.DiskFault }
+        ensures spends { SpendsCalls 4 0 (D.budget self.old.disk) (D.budget self.new.disk) }
     {
         if self.phase == Phase::Writing {
             return Ok(false);

@@ -1,5 +1,6 @@
 //! Making a journal of what a disk holds.
-ghost use Rattle.std.specs.Prelude.{◌≡◌, ◌≢◌, ◌+◌, ◌<◌, ◌≤◌, ◌↔◌, ◌⊎◌, List, ℕ, length, take, IfOk, IfErr, OnOk, IsErrOf, IsTrue, IfSome, Some};
+ghost use Rattle.std.specs.Prelude.{◌≡◌, ◌≢◌, ◌+◌, ◌<◌, ◌≤◌, ◌↔◌, ◌⊎◌, List, ℕ, length, take, IsOk, IfOk, IfErr, OnOk, IsErrOf, IsTrue, IfSome, Some};
+ghost use Rattle.mx_outside.specs.Budget.{CoversCalls, SpendsCalls};
 ghost use Rattle.mx_outside.specs.Disk.{Only, LeavesOnly, CountsFaults};
 ghost use Rattle.mx_journal.specs.Calls.{OnlyReads, CountsDiskFaults};
 ghost use Rattle.mx_journal.specs.Fault.{LacksHeader};
@@ -37,6 +38,8 @@ pub(crate) fn begin<D: Disk>(disk: &mut D) -> Result<(), JournalError>
         (cause ≡ JournalError.NotAJournal 0) ⊎ (cause ≡ JournalError.DiskFault)) }
     ensures stays { D.same_disk disk.old disk.new }
     ensures counts { CountsDiskFaults result (D.faults disk.old) (D.faults disk.new) }
+    ensures within { CoversCalls (D.budget disk.old) 5 17 → result ≢ Err JournalError.DiskFault }
+    ensures spends { SpendsCalls 5 17 (D.budget disk.old) (D.budget disk.new) }
 {
     let size = disk.len()?;
     if size > 17 {
@@ -56,6 +59,8 @@ fn has_header<D: Disk>(disk: &mut D) -> Result<bool, Failed>
     ensures only_reads { OnlyReads D.same_disk D.seen D.may_leave D.moment D.left_since
         disk.old disk.new }
     ensures counts { CountsFaults result (D.faults disk.old) (D.faults disk.new) }
+    ensures within { CoversCalls (D.budget disk.old) 1 0 → IsOk result }
+    ensures spends { SpendsCalls 1 0 (D.budget disk.old) (D.budget disk.new) }
 {
     let mut front = [0u8; 16];
     disk.read(0, &mut front)?;
@@ -70,6 +75,8 @@ fn is_empty_journal<D: Disk>(disk: &mut D, size: u64) -> Result<bool, Failed>
     ensures only_reads { OnlyReads D.same_disk D.seen D.may_leave D.moment D.left_since
         disk.old disk.new }
     ensures counts { CountsFaults result (D.faults disk.old) (D.faults disk.new) }
+    ensures within { CoversCalls (D.budget disk.old) 2 0 → IsOk result }
+    ensures spends { SpendsCalls 2 0 (D.budget disk.old) (D.budget disk.new) }
 {
     if size < 17 {
         return Ok(false);
@@ -92,6 +99,8 @@ fn write_empty_journal<D: Disk>(disk: &mut D) -> Result<(), Failed>
         → IfSome (D.seen disk.new) (D.may_leave disk.new) }
     ensures stays { D.same_disk disk.old disk.new }
     ensures counts { CountsFaults result (D.faults disk.old) (D.faults disk.new) }
+    ensures within { CoversCalls (D.budget disk.old) 2 17 → IsOk result }
+    ensures spends { SpendsCalls 2 17 (D.budget disk.old) (D.budget disk.new) }
 {
     write_through(disk, 0, &EMPTY_JOURNAL)?;
     Ok(())

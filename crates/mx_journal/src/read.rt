@@ -1,5 +1,6 @@
 //! Reading one record at its gate.
-ghost use Rattle.std.specs.Prelude.{◌≡◌, ◌+◌, ◌<◌, ◌≤◌, ◌^◌, List, ℕ, length, take, drop, slice_index, vec_len, IfOk, OnOk, IfSome, MatchOption, true};
+ghost use Rattle.std.specs.Prelude.{◌≡◌, ◌≢◌, ◌+◌, ◌<◌, ◌≤◌, ◌^◌, List, ℕ, length, take, drop, slice_index, vec_len, IsOk, IfOk, OnOk, IfSome, MatchOption, true};
+ghost use Rattle.mx_outside.specs.Budget.{CoversCalls, SpendsCalls};
 ghost use Rattle.mx_outside.specs.Disk.{CountsFaults};
 ghost use Rattle.mx_journal.specs.Image.{number_bytes};
 ghost use Rattle.mx_journal.specs.Calls.{OnlyReads, CountsDiskFaults};
@@ -23,6 +24,8 @@ pub(crate) fn read_record<D: Disk>(
         disk.old disk.new }
     ensures counts { CountsDiskFaults result (D.faults disk.old) (D.faults disk.new) }
     ensures bounded { result ≡ Ok true → gate + 5 + length out.new.items < 2 ^ 63 }
+    ensures within { CoversCalls (D.budget disk.old) 4 0 → result ≢ Err JournalError.DiskFault }
+    ensures spends { SpendsCalls 4 0 (D.budget disk.old) (D.budget disk.new) }
 {
     let size = disk.len()?;
     if size <= gate {
@@ -46,6 +49,8 @@ pub(crate) fn read_gate<D: Disk>(disk: &mut D, at: u64) -> Result<u8, Failed>
     ensures only_reads { OnlyReads D.same_disk D.seen D.may_leave D.moment D.left_since
         disk.old disk.new }
     ensures counts { CountsFaults result (D.faults disk.old) (D.faults disk.new) }
+    ensures within { CoversCalls (D.budget disk.old) 1 0 → IsOk result }
+    ensures spends { SpendsCalls 1 0 (D.budget disk.old) (D.budget disk.new) }
 {
     let mut gate = [0u8; 1];
     disk.read(at, &mut gate)?;
@@ -63,6 +68,8 @@ fn read_length<D: Disk>(disk: &mut D, at: u64, size: u64) -> Result<Option<u32>,
     ensures only_reads { OnlyReads D.same_disk D.seen D.may_leave D.moment D.left_since
         disk.old disk.new }
     ensures counts { CountsFaults result (D.faults disk.old) (D.faults disk.new) }
+    ensures within { CoversCalls (D.budget disk.old) 1 0 → IsOk result }
+    ensures spends { SpendsCalls 1 0 (D.budget disk.old) (D.budget disk.new) }
 {
     let left = size - at;
     if left < 4 {
@@ -83,6 +90,8 @@ fn read_number<D: Disk>(disk: &mut D, at: u64) -> Result<u32, Failed>
     ensures only_reads { OnlyReads D.same_disk D.seen D.may_leave D.moment D.left_since
         disk.old disk.new }
     ensures counts { CountsFaults result (D.faults disk.old) (D.faults disk.new) }
+    ensures within { CoversCalls (D.budget disk.old) 1 0 → IsOk result }
+    ensures spends { SpendsCalls 1 0 (D.budget disk.old) (D.budget disk.new) }
 {
     let mut bytes = [0u8; 4];
     disk.read(at, &mut bytes)?;
@@ -106,6 +115,8 @@ fn read_payload<D: Disk>(disk: &mut D, at: u64, out: &mut Vec<u8>) -> Result<(),
     ensures only_reads { OnlyReads D.same_disk D.seen D.may_leave D.moment D.left_since
         disk.old disk.new }
     ensures counts { CountsFaults result (D.faults disk.old) (D.faults disk.new) }
+    ensures within { CoversCalls (D.budget disk.old) 1 0 → IsOk result }
+    ensures spends { SpendsCalls 1 0 (D.budget disk.old) (D.budget disk.new) }
 {
     disk.read(at, out.as_mut_slice())?;
     Ok(())
