@@ -63,7 +63,8 @@ impl<D: Disk> Journal<D> {
         ensures long { IfOk result (λ journal. (content : List ℕ)
             → D.seen disk ≡ Some content → 17 < length content
             → HasRead D.seen journal content []) }
-        ensures fresh { IfOk result (λ journal. (journal.phase ≡ Phase.Reading) × (journal.staged ≡ [])) }
+        ensures fresh { IfOk result (λ journal.
+            (journal.phase ≡ Phase.Reading) × (journal.staged ≡ [])) }
 
         // More than 17 bytes and the empty journal are only read.
         ensures only_reads { (content : List ℕ) → D.seen disk ≡ Some content → IsWhole content
@@ -88,7 +89,7 @@ impl<D: Disk> Journal<D> {
         ensures remains { IfSome (D.seen disk) (D.may_leave disk)
             → IfSome (D.seen (disk_after result)) (D.may_leave (disk_after result)) }
 
-        // A missing header is the one fault that opening tells, and it tells it, unless the disk fails.
+        // A missing header is the one fault that opening tells, and tells unless the disk fails.
         ensures causes { IfErr result (λ error. (error.cause ≡ JournalError.NotAJournal 0)
             ⊎ (error.cause ≡ JournalError.DiskFault)) }
         ensures not_a_journal { IfErr result (λ error. (content : List ℕ) (offset : ℕ)
@@ -115,7 +116,8 @@ impl<D: Disk> Journal<D> {
 
         // An image stands for one list of payloads at most.
         ensures one_list { (image : List ℕ) (payloads others : List (List ℕ))
-            → StandsForPayloads image payloads → StandsForPayloads image others → payloads ≡ others }
+            → StandsForPayloads image payloads → StandsForPayloads image others
+            → payloads ≡ others }
     {
         match begin(&mut disk) {
             Ok(()) => Ok(Journal {
@@ -224,7 +226,8 @@ impl<D: Disk> Journal<D> {
     /// no memory for the record. Either leaves what was staged.
     pub fn stage(&mut self, payload: &[u8]) -> Result<(), StageError>
         requires { 0 < length payload.now }
-        ensures too_long { (result ≡ Err StageError.TooLong) ↔ (payload_limit < length payload.now) }
+        ensures too_long { (result ≡ Err StageError.TooLong)
+            ↔ (payload_limit < length payload.now) }
         ensures staged { OnOk result (self.new ≡ record self.old { staged = payload.now }) }
         ensures same { OnErr result (self.new ≡ self.old) }
     {
@@ -247,7 +250,8 @@ impl<D: Disk> Journal<D> {
         requires all_read { self.old.phase ≢ Phase.Reading }
 
         // At Ok the new payload is on the disk, and a crash leaves nothing else.
-        ensures acknowledged { (payloads : List (List ℕ)) → Rests D.seen D.may_leave self.old payloads
+        ensures acknowledged { (payloads : List (List ℕ))
+            → Rests D.seen D.may_leave self.old payloads
             → OnOk result (Rests D.seen D.may_leave self.new (payloads ++ self.old.staged ∷ [])) }
         ensures only_new { (payloads : List (List ℕ)) (image : List ℕ)
             → Rests D.seen D.may_leave self.old payloads → D.may_leave self.new.disk image

@@ -12,7 +12,8 @@ const ONE: &[u8] = b"MXPUSHJ1\x01\0\0\0\0\0\0\0\x01\x03\0\0\0one\0";
 const ONE_TWO: &[u8] = b"MXPUSHJ1\x01\0\0\0\0\0\0\0\x01\x03\0\0\0one\x01\x03\0\0\0two\0";
 
 fn opened<D: Disk + Drop>(alloc: Global, disk: D) -> Result<Journal<D>, JournalError>
-    ensures fresh { IfOk result (λ journal. (journal.phase ≡ Phase.Reading) × (journal.staged ≡ [])) }
+    ensures fresh { IfOk result (λ journal.
+        (journal.phase ≡ Phase.Reading) × (journal.staged ≡ [])) }
 {
     match Journal::open(alloc, disk) {
         Ok(journal) => Ok(journal),

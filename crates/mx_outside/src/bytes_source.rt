@@ -19,7 +19,10 @@ impl Model for BytesSource {
 
     ghost Value = { Pieces };
 
-    ghost view = { λ s. record { left = drop s.given s.bytes.items; sizes = drop s.pieces s.sizes.items } };
+    ghost view = { λ s. record {
+      left = drop s.given s.bytes.items;
+      sizes = drop s.pieces s.sizes.items;
+    } };
 
     ghost invariant = { λ s. (s.given ≤ vec_len s.bytes) × (s.pieces ≤ vec_len s.sizes) };
 }

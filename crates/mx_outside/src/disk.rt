@@ -75,7 +75,8 @@ pub trait Disk {
         ensures written { WhereTold (seen self.old) (seen self.new)
             (λ old new. Wrote result at piece.now old new) }
         ensures bounded { 2 ^ 63 ≤ at + length piece.now → IsErr result }
-        ensures crash { Follows (Torn at (length piece.now)) (may_leave self.old) (may_leave self.new) }
+        ensures crash { Follows (Torn at (length piece.now))
+            (may_leave self.old) (may_leave self.new) }
         ensures time { Elapses (moment self.old) (moment self.new)
             (left_since self.old) (left_since self.new) (may_leave self.new) }
         ensures possible { OnOk result (IfSome (seen self.new) (may_leave self.new)) }
@@ -152,7 +153,8 @@ impl<D: Disk> Disk for &mut D {
 
     ghost budget = { λ d. D.budget d.now };
 
-    ghost same_disk = { λ old new. (new.ghost_name ≡ old.ghost_name) × D.same_disk old.now new.now };
+    ghost same_disk = { λ old new.
+        (new.ghost_name ≡ old.ghost_name) × D.same_disk old.now new.now };
 
     fn len(&mut self) -> Result<u64, Failed> {
         (**self).len()

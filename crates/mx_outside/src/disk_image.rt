@@ -31,7 +31,8 @@ impl Model for DiskImage {
       synced = i.synced.items;
       fresh = i.fresh.items;
       capacity = i.capacity;
-    }) × Capacities i.capacity (vec_capacity i.content) (vec_capacity i.synced) (vec_capacity i.fresh) };
+    }) × Capacities i.capacity
+        (vec_capacity i.content) (vec_capacity i.synced) (vec_capacity i.fresh) };
 }
 
 /// Puts the piece over what stands from `at` on, where there is memory for it.
@@ -82,7 +83,8 @@ impl DiskImage {
 
     /// This content, all of it synced, with memory for `more` further bytes.
     pub fn new(alloc: Global, content: &[u8], more: usize) -> Result<DiskImage, AllocError>
-        ensures { IfOk result (λ image. image ≡ image_first content.now (length content.now + more)) }
+        ensures { IfOk result (λ image.
+            image ≡ image_first content.now (length content.now + more)) }
     {
         let Some(capacity) = content.len().checked_add(more) else {
             return Err(AllocError);
@@ -118,7 +120,8 @@ impl DiskImage {
     /// What a read gives, with this value in the place of each byte that was written since the
     /// last sync.
     pub fn filled(&self, alloc: Global, value: u8) -> Result<Vec<u8>, AllocError>
-        ensures { IfOk result (λ bytes. bytes.items ≡ filled value self.now.fresh self.now.content) }
+        ensures { IfOk result (λ bytes.
+            bytes.items ≡ filled value self.now.fresh self.now.content) }
     {
         let mut bytes = Vec::with_capacity(alloc, self.content.len())?;
         for index in 0..self.content.len() {

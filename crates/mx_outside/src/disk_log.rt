@@ -40,7 +40,8 @@ impl DiskLog {
 
     /// No change yet, with memory for so many written bytes and calls.
     pub fn new(alloc: Global, bytes: usize, calls: usize) -> Result<DiskLog, AllocError>
-        ensures { IfOk result (λ log. log ≡ record { changes = []; byte_capacity = bytes; call_capacity = calls }) }
+        ensures { IfOk result (λ log.
+            log ≡ record { changes = []; byte_capacity = bytes; call_capacity = calls }) }
     {
         Ok(DiskLog {
             bytes: Vec::with_capacity(alloc, bytes)?,

@@ -65,7 +65,8 @@ impl<S> Model for FailingSource<S> {
 impl<S> FailingSource<S> {
     /// Wraps `source`. The calls of `read` with these numbers, from 1, are to fail.
     pub fn new(source: S, numbers: Vec<u64>) -> FailingSource<S>
-        ensures { result ≡ record { below = source; failing = numbers.items; calls = 0; faults = 0 } }
+        ensures { result ≡
+            record { below = source; failing = numbers.items; calls = 0; faults = 0 } }
     {
         FailingSource {
             source,
@@ -105,7 +106,8 @@ impl<S: Source> Source for FailingSource<S> {
             → Rose (self.old.faults + S.faults self.old.below)
             (self.new.faults + S.faults self.new.below) }
         ensures steady { result ≢ Got.Failed
-            → self.new.faults + S.faults self.new.below ≡ self.old.faults + S.faults self.old.below }
+            → self.new.faults + S.faults self.new.below
+            ≡ self.old.faults + S.faults self.old.below }
         ensures sure { IsTrue (unlisted_and self.old.failing (S.never_fails self.old.below))
             → result ≢ Got.Failed }
         ensures still { IsTrue (unlisted_and self.old.failing (S.never_fails self.old.below))
@@ -190,7 +192,8 @@ impl<K: Sink> Sink for FailingSink<K> {
             → Rose (self.old.faults + K.faults self.old.below)
             (self.new.faults + K.faults self.new.below) }
         ensures steady { result ≢ Put.Failed
-            → self.new.faults + K.faults self.new.below ≡ self.old.faults + K.faults self.old.below }
+            → self.new.faults + K.faults self.new.below
+            ≡ self.old.faults + K.faults self.old.below }
         ensures within { Covers (budget_below self.old.failing (K.budget self.old.below))
             (length piece.now)
             → result ≢ Put.Failed }

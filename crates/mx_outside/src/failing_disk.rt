@@ -74,13 +74,16 @@ impl<D: Disk> Disk for FailingDisk<D> {
             (λ old new. new ≡ old) }
         ensures crash { SameImages (D.may_leave self.old.below) (D.may_leave self.new.below) }
         ensures time { Elapses (D.moment self.old.below) (D.moment self.new.below)
-            (D.left_since self.old.below) (D.left_since self.new.below) (D.may_leave self.new.below) }
-        ensures possible { OnOk result (IfSome (D.seen self.new.below) (D.may_leave self.new.below)) }
+            (D.left_since self.old.below) (D.left_since self.new.below)
+            (D.may_leave self.new.below) }
+        ensures possible { OnOk result
+            (IfSome (D.seen self.new.below) (D.may_leave self.new.below)) }
         ensures remains { IfSome (D.seen self.old.below) (D.may_leave self.old.below)
             → IfSome (D.seen self.new.below) (D.may_leave self.new.below) }
         ensures stays { D.same_disk self.old.below self.new.below }
         ensures counts { CountsFaults result
-            (self.old.faults + D.faults self.old.below) (self.new.faults + D.faults self.new.below) }
+            (self.old.faults + D.faults self.old.below)
+            (self.new.faults + D.faults self.new.below) }
         ensures within { Covers (budget_below self.old.failing (D.budget self.old.below)) 0
             → IsOk result }
         ensures spends { SpendsAtMost 0 (budget_below self.old.failing (D.budget self.old.below))
@@ -94,20 +97,24 @@ impl<D: Disk> Disk for FailingDisk<D> {
     }
 
     fn read(&mut self, at: u64, into: &mut [u8]) -> Result<(), Failed>
-        requires { IfSome (D.seen self.old.below) (λ content. at + length into.old ≤ length content) }
+        requires { IfSome (D.seen self.old.below)
+            (λ content. at + length into.old ≤ length content) }
         ensures bytes { WhereTold (D.seen self.old.below) (D.seen self.new.below)
             (λ old _. IsRead result at into.new old) }
         ensures same { WhereTold (D.seen self.old.below) (D.seen self.new.below)
             (λ old new. new ≡ old) }
         ensures crash { SameImages (D.may_leave self.old.below) (D.may_leave self.new.below) }
         ensures time { Elapses (D.moment self.old.below) (D.moment self.new.below)
-            (D.left_since self.old.below) (D.left_since self.new.below) (D.may_leave self.new.below) }
-        ensures possible { OnOk result (IfSome (D.seen self.new.below) (D.may_leave self.new.below)) }
+            (D.left_since self.old.below) (D.left_since self.new.below)
+            (D.may_leave self.new.below) }
+        ensures possible { OnOk result
+            (IfSome (D.seen self.new.below) (D.may_leave self.new.below)) }
         ensures remains { IfSome (D.seen self.old.below) (D.may_leave self.old.below)
             → IfSome (D.seen self.new.below) (D.may_leave self.new.below) }
         ensures stays { D.same_disk self.old.below self.new.below }
         ensures counts { CountsFaults result
-            (self.old.faults + D.faults self.old.below) (self.new.faults + D.faults self.new.below) }
+            (self.old.faults + D.faults self.old.below)
+            (self.new.faults + D.faults self.new.below) }
         ensures within { Covers (budget_below self.old.failing (D.budget self.old.below)) 0
             → IsOk result }
         ensures spends { SpendsAtMost 0 (budget_below self.old.failing (D.budget self.old.below))
@@ -125,15 +132,19 @@ impl<D: Disk> Disk for FailingDisk<D> {
         ensures written { WhereTold (D.seen self.old.below) (D.seen self.new.below)
             (λ old new. Wrote result at piece.now old new) }
         ensures bounded { 2 ^ 63 ≤ at + length piece.now → IsErr result }
-        ensures crash { Follows (Torn at (length piece.now)) (D.may_leave self.old.below) (D.may_leave self.new.below) }
+        ensures crash { Follows (Torn at (length piece.now))
+            (D.may_leave self.old.below) (D.may_leave self.new.below) }
         ensures time { Elapses (D.moment self.old.below) (D.moment self.new.below)
-            (D.left_since self.old.below) (D.left_since self.new.below) (D.may_leave self.new.below) }
-        ensures possible { OnOk result (IfSome (D.seen self.new.below) (D.may_leave self.new.below)) }
+            (D.left_since self.old.below) (D.left_since self.new.below)
+            (D.may_leave self.new.below) }
+        ensures possible { OnOk result
+            (IfSome (D.seen self.new.below) (D.may_leave self.new.below)) }
         ensures remains { IfSome (D.seen self.old.below) (D.may_leave self.old.below)
             → IfSome (D.seen self.new.below) (D.may_leave self.new.below) }
         ensures stays { D.same_disk self.old.below self.new.below }
         ensures counts { CountsFaults result
-            (self.old.faults + D.faults self.old.below) (self.new.faults + D.faults self.new.below) }
+            (self.old.faults + D.faults self.old.below)
+            (self.new.faults + D.faults self.new.below) }
         ensures within { Covers (budget_below self.old.failing (D.budget self.old.below))
             (length piece.now) → at + length piece.now < 2 ^ 63 → IsOk result }
         ensures spends { SpendsAtMost (length piece.now)
@@ -151,15 +162,19 @@ impl<D: Disk> Disk for FailingDisk<D> {
         requires { IfSome (D.seen self.old.below) (λ content. to ≤ length content) }
         ensures shortened { WhereTold (D.seen self.old.below) (D.seen self.new.below)
             (λ old new. WasCut result to old new) }
-        ensures crash { Follows (Shortened to) (D.may_leave self.old.below) (D.may_leave self.new.below) }
+        ensures crash { Follows (Shortened to)
+            (D.may_leave self.old.below) (D.may_leave self.new.below) }
         ensures time { Elapses (D.moment self.old.below) (D.moment self.new.below)
-            (D.left_since self.old.below) (D.left_since self.new.below) (D.may_leave self.new.below) }
-        ensures possible { OnOk result (IfSome (D.seen self.new.below) (D.may_leave self.new.below)) }
+            (D.left_since self.old.below) (D.left_since self.new.below)
+            (D.may_leave self.new.below) }
+        ensures possible { OnOk result
+            (IfSome (D.seen self.new.below) (D.may_leave self.new.below)) }
         ensures remains { IfSome (D.seen self.old.below) (D.may_leave self.old.below)
             → IfSome (D.seen self.new.below) (D.may_leave self.new.below) }
         ensures stays { D.same_disk self.old.below self.new.below }
         ensures counts { CountsFaults result
-            (self.old.faults + D.faults self.old.below) (self.new.faults + D.faults self.new.below) }
+            (self.old.faults + D.faults self.old.below)
+            (self.new.faults + D.faults self.new.below) }
         ensures within { Covers (budget_below self.old.failing (D.budget self.old.below)) 0
             → IsOk result }
         ensures spends { SpendsAtMost 0 (budget_below self.old.failing (D.budget self.old.below))
@@ -178,15 +193,19 @@ impl<D: Disk> Disk for FailingDisk<D> {
         ensures durable { WhereTold (D.seen self.old.below) (D.seen self.new.below)
             (λ _ new. OnOk result (Only new (D.may_leave self.new.below))) }
         ensures crash { NoMore (D.may_leave self.old.below) (D.may_leave self.new.below) }
-        ensures unchanged { OnErr result (SameImages (D.may_leave self.old.below) (D.may_leave self.new.below)) }
+        ensures unchanged { OnErr result
+            (SameImages (D.may_leave self.old.below) (D.may_leave self.new.below)) }
         ensures time { Elapses (D.moment self.old.below) (D.moment self.new.below)
-            (D.left_since self.old.below) (D.left_since self.new.below) (D.may_leave self.new.below) }
-        ensures possible { OnOk result (IfSome (D.seen self.new.below) (D.may_leave self.new.below)) }
+            (D.left_since self.old.below) (D.left_since self.new.below)
+            (D.may_leave self.new.below) }
+        ensures possible { OnOk result
+            (IfSome (D.seen self.new.below) (D.may_leave self.new.below)) }
         ensures remains { IfSome (D.seen self.old.below) (D.may_leave self.old.below)
             → IfSome (D.seen self.new.below) (D.may_leave self.new.below) }
         ensures stays { D.same_disk self.old.below self.new.below }
         ensures counts { CountsFaults result
-            (self.old.faults + D.faults self.old.below) (self.new.faults + D.faults self.new.below) }
+            (self.old.faults + D.faults self.old.below)
+            (self.new.faults + D.faults self.new.below) }
         ensures within { Covers (budget_below self.old.failing (D.budget self.old.below)) 0
             → IsOk result }
         ensures spends { SpendsAtMost 0 (budget_below self.old.failing (D.budget self.old.below))

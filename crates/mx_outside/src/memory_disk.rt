@@ -45,7 +45,8 @@ impl Model for MemoryDisk {
       faults = d.faults;
     } };
 
-    ghost invariant = { λ d. HoldsMedium d.first.items d.image d.log d.byte_capacity d.call_capacity };
+    ghost invariant = { λ d.
+        HoldsMedium d.first.items d.image d.log d.byte_capacity d.call_capacity };
 }
 
 /// Whether a piece of so many bytes at `at` ends within the greatest length.

@@ -35,8 +35,13 @@ impl VecSink {
     /// A sink with memory for so many bytes and calls. Calls within these take no memory and
     /// never fail.
     pub fn new(alloc: Global, bytes: usize, calls: usize) -> Result<VecSink, OutOfMemory>
-        ensures { IfOk result (λ sink.
-            sink ≡ record { taken = []; sizes = []; byte_capacity = bytes; call_capacity = calls; faults = 0 }) }
+        ensures { IfOk result (λ sink. sink ≡ record {
+          taken = [];
+          sizes = [];
+          byte_capacity = bytes;
+          call_capacity = calls;
+          faults = 0;
+        }) }
     {
         Ok(VecSink {
             taken: Vec::with_capacity(alloc, bytes)?,
