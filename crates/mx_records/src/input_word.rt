@@ -46,6 +46,6 @@ impl InputWord {
         requires { is_valid json.now ≡ true }
         ensures { result ≡ input_word_in json.now }
     {
-        InputWord::named(json.member("cmd")?.as_text()?)
+        InputWord::named(json.text_at("cmd")?)
     }
 }
