@@ -102,7 +102,10 @@ mod tests {
         assert_eq!(rt; folded.at(folded.len(), &mut meter), None);
         assert_eq!(rt; meter.count(), 11);
         assert!(rt; !folded.is_empty());
-        assert_eq!(rt; format!(in rt.alloc(); "{folded:?}")?.as_str(), "Folded { len: 10 }");
+        assert_eq!(rt;
+            format!(in rt.alloc(); "{folded:?}")?.as_str(),
+            "Folded { len: 10 }"
+        );
         Ok(())
     }
 }

@@ -1,4 +1,4 @@
-use Rattle.std.proofs.Common.{◌≡◌, refl}
+use Rattle.std.proofs.Common.{refl}
 use Rattle.mx_json.specs.declared.value.Json.{Object}
 use Rattle.mx_json.specs.Json.{IsMemberAt}
 use Rattle.mx_json.proofs.JsonLemmas.{is_valid-member_in}
