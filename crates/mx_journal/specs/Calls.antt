@@ -7,7 +7,9 @@ use Rattle.mx_journal.specs.declared.error.JournalError.TheVariants.{DiskFault}
 
 -- A disk was read and not written: it is the same, it gives the same, a crash now may leave the same, a crash
 -- on the way left nothing else, and what a read gives is still one of the images where it was one.
-pub record OnlyReads {D : Type 0} (same_disk : D → D → Type 0) (seen : D → Option (List ℕ)) (may_leave : D → List ℕ → Type 0) (moment : D → ℕ) (left_since : D → ℕ → List ℕ → Type 0) (old new : D) : Type 0 where
+pub record OnlyReads {D : Type 0} (same_disk : D → D → Type 0) (seen : D → Option (List ℕ))
+    (may_leave : D → List ℕ → Type 0) (moment : D → ℕ) (left_since : D → ℕ → List ℕ → Type 0) (old new : D)
+    : Type 0 where
   pub stays : same_disk old new
   pub same : WhereTold (seen old) (seen new) (λ before after. after ≡ before)
   pub images : SameImages (may_leave old) (may_leave new)

@@ -12,15 +12,15 @@ pub record Opened (D : Type 0) : Type 0 where
   -- the payload that is staged, and no bytes where none is
   pub staged : List ℕ
 
--- A journal that was opened has more than 17 bytes, or it is the empty one.
-abbrev pub IsWhole : List ℕ → Type 0
-IsWhole content = length content ≤ 17 → content ≡ empty_journal
+-- More than 17 bytes, or the empty journal: what opening leaves as it is.
+abbrev pub IsLongOrEmpty : List ℕ → Type 0
+IsLongOrEmpty content = length content ≤ 17 → content ≡ empty_journal
 
 -- What the disk gives begins with the header and the records of these payloads, and the next gate
 -- stands behind them.
 pub record ReadTo (seen : Option (List ℕ)) (gate : ℕ) (content : List ℕ) (payloads : List (List ℕ)) : Type 0 where
   pub told : seen ≡ Some content
-  pub whole : IsWhole content
+  pub whole : IsLongOrEmpty content
   pub front : content ≡ front_of payloads ++ drop gate content
   pub place : length (front_of payloads) ≡ gate
   pub fit : ArePayloads payloads
@@ -42,7 +42,8 @@ LeavesAlike content payloads may_leave =
     (image : List ℕ) → may_leave image → (image ≡ content) ⊎ IsJournalOf image payloads
 
 -- These are all payloads of what the disk gives, and of each image that a crash may leave.
-pub record RestsAt (seen : Option (List ℕ)) (may_leave : List ℕ → Type 0) (gate : ℕ) (payloads : List (List ℕ)) : Type 0 where
+pub record RestsAt (seen : Option (List ℕ)) (may_leave : List ℕ → Type 0) (gate : ℕ) (payloads : List (List ℕ)) : Type
+    0 where
   pub content : List ℕ
   pub read : ReadTo seen gate content payloads
   pub gate_closed : HasClosedGate content gate

@@ -5,7 +5,7 @@ ghost use Rattle.mx_outside.specs.Disk.{Only, LeavesOnly};
 ghost use Rattle.mx_journal.specs.Image.{header, empty_journal, payload_limit, StandsForPayloads, StandsForEither};
 ghost use Rattle.mx_journal.specs.Fault.{LacksHeader, IsFaultyGate, IsNotAJournalAt};
 ghost use Rattle.mx_journal.specs.Calls.{OnlyReads, CountsDiskFaults};
-ghost use Rattle.mx_journal.specs.Journal.{IsWhole, HasRead, HasClosedGate, LeavesAlike, Rests};
+ghost use Rattle.mx_journal.specs.Journal.{IsLongOrEmpty, HasRead, HasClosedGate, LeavesAlike, Rests};
 ghost use Rattle.mx_journal.specs.NextRecord.{Found, BeginsWith, phase_after_reading};
 ghost use Rattle.mx_journal.specs.Opening.{IsLeftByOpening, disk_after};
 
@@ -67,7 +67,7 @@ impl<D: Disk> Journal<D> {
             (journal.phase ≡ Phase.Reading) × (journal.staged ≡ [])) }
 
         // More than 17 bytes and the empty journal are only read.
-        ensures only_reads { (content : List ℕ) → D.seen disk ≡ Some content → IsWhole content
+        ensures only_reads { (content : List ℕ) → D.seen disk ≡ Some content → IsLongOrEmpty content
             → OnlyReads D.same_disk D.seen D.may_leave D.moment D.left_since
             disk (disk_after result) }
 

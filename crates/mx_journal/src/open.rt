@@ -5,7 +5,7 @@ ghost use Rattle.mx_outside.specs.Disk.{Only, LeavesOnly, CountsFaults};
 ghost use Rattle.mx_journal.specs.Calls.{OnlyReads, CountsDiskFaults};
 ghost use Rattle.mx_journal.specs.Fault.{LacksHeader};
 ghost use Rattle.mx_journal.specs.Image.{header, empty_journal};
-ghost use Rattle.mx_journal.specs.Journal.{IsWhole};
+ghost use Rattle.mx_journal.specs.Journal.{IsLongOrEmpty};
 ghost use Rattle.mx_journal.specs.Opening.{IsLeftByOpening};
 
 use crate::JournalError;
@@ -20,7 +20,7 @@ pub(crate) fn begin<D: Disk>(disk: &mut D) -> Result<(), JournalError>
         → OnOk result (D.seen disk.new ≡ Some empty_journal) }
     ensures long { (content : List ℕ) → D.seen disk.old ≡ Some content → 17 < length content
         → OnOk result (take 16 content ≡ header) }
-    ensures only_reads { (content : List ℕ) → D.seen disk.old ≡ Some content → IsWhole content
+    ensures only_reads { (content : List ℕ) → D.seen disk.old ≡ Some content → IsLongOrEmpty content
         → OnlyReads D.same_disk D.seen D.may_leave D.moment D.left_since disk.old disk.new }
     ensures durable { (content : List ℕ)
         → D.seen disk.old ≡ Some content → Only content (D.may_leave disk.old)

@@ -16,9 +16,9 @@ budget_below [] below = below
 budget_below (number ∷ numbers) below = no_budget
 
 -- Where no call is listed, it is known not to fail where what is wrapped is.
-abbrev pub unlisted_and : List ℕ → Bool → Bool
-unlisted_and [] below = below
-unlisted_and (number ∷ numbers) below = false
+abbrev pub never_fails_below : List ℕ → Bool → Bool
+never_fails_below [] below = below
+never_fails_below (number ∷ numbers) below = false
 
 -- The next call fails.
 abbrev pub FailsNext : {A : Type 0} → Wrapped A → Type 0

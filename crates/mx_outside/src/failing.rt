@@ -86,13 +86,13 @@ impl<S: Source> Source for FailingSource<S> {
     ghost use Rattle.std.specs.Prelude.{◌+◌};
     ghost use Rattle.mx_outside.specs.Told.{WhereTold, Rose};
     ghost use Rattle.mx_outside.specs.Outside.{IsGiven, GivesBytes};
-    ghost use Rattle.mx_outside.specs.Failing.{FailsNext, FailsHere, CountsCall, unlisted_and};
+    ghost use Rattle.mx_outside.specs.Failing.{FailsNext, FailsHere, CountsCall, never_fails_below};
 
     ghost left = { λ s. S.left s.below };
 
     ghost faults = { λ s. s.faults + S.faults s.below };
 
-    ghost never_fails = { λ s. unlisted_and s.failing (S.never_fails s.below) };
+    ghost never_fails = { λ s. never_fails_below s.failing (S.never_fails s.below) };
 
     /// Fails where the number of the call is listed, and else answers as the source below.
     fn read(&mut self, into: &mut [u8]) -> Got
@@ -108,10 +108,10 @@ impl<S: Source> Source for FailingSource<S> {
         ensures steady { result ≢ Got.Failed
             → self.new.faults + S.faults self.new.below
             ≡ self.old.faults + S.faults self.old.below }
-        ensures sure { IsTrue (unlisted_and self.old.failing (S.never_fails self.old.below))
+        ensures sure { IsTrue (never_fails_below self.old.failing (S.never_fails self.old.below))
             → result ≢ Got.Failed }
-        ensures still { IsTrue (unlisted_and self.old.failing (S.never_fails self.old.below))
-            → IsTrue (unlisted_and self.new.failing (S.never_fails self.new.below)) }
+        ensures still { IsTrue (never_fails_below self.old.failing (S.never_fails self.old.below))
+            → IsTrue (never_fails_below self.new.failing (S.never_fails self.new.below)) }
 
         // A call that is listed fails here, and any other fails only below.
         ensures counts { CountsCall self.old self.new }

@@ -10,7 +10,8 @@ use Rattle.mx_journal.proofs.open.is_empty_journal.Goals as goal
 
 pub returns-then-size-lt17-clause-value : goal.returns-then-size-lt17-clause-value
 returns-then-size-lt17-clause-value g c = λ content told.
-    let sized : c.args.size ≡ length content = IfSome-at (λ content. c.args.size ≡ length content) (g.D.Disk.seen c.args.disk.now) content c.requires.sized told in
+    let sized : c.args.size ≡ length content = IfSome-at (λ content. c.args.size ≡ length content)
+    (g.D.Disk.seen c.args.disk.now) content c.requires.sized told in
     (λ no. cc, λ is. absurd (omega (arith, ap length is, length-empty_journal)))
 
 pub returns-then-not-branch-clause-value : goal.returns-then-not-branch-clause-value
@@ -20,9 +21,11 @@ returns-then-not-branch-clause-value g c = λ content told.
 
 pub returns-clause-value : goal.returns-clause-value
 returns-clause-value g c = λ content told.
-    let sized : c.args.size ≡ length content = IfSome-at (λ content. c.args.size ≡ length content) (g.D.Disk.seen c.args.disk.now) content c.requires.sized told in
+    let sized : c.args.size ≡ length content = IfSome-at (λ content. c.args.size ≡ length content)
+    (g.D.Disk.seen c.args.disk.now) content c.requires.sized told in
     let same = told_same _ _ content c.has_header.ensures.only_reads.same told in
     let test = c.in_ok-has_header.ensures.value content told in
     let front : take 16 content ≡ header = test.0 (cc) in
-    let empty = IsEmpty-read content c.in_ok-read_gate.field-0 (omega arith) front (c.in_ok-read_gate.ensures.value content same) in
+    let empty = IsEmpty-read content c.in_ok-read_gate.field-0 (omega arith) front
+    (c.in_ok-read_gate.ensures.value content same) in
     (λ yes. empty.0 (eqb-true _ _ yes), λ is. eq-eqb _ _ (empty.1 is))

@@ -12,18 +12,21 @@ pub returns-in-Ok-clause-short : goal.returns-in-Ok-clause-short
 returns-in-Ok-clause-short g c = λ content told short. record {
   told = c.in-Ok.ensures.short content told short;
   whole = λ _. refl;
-  front = ap (λ h. h ++ closed_gate ∷ []) (sym (append-nil header)) ∙ ap (λ back. (header ++ []) ++ back) (sym (drop_at header (closed_gate ∷ []) 16 length-header));
+  front = ap (λ h. h ++ closed_gate ∷ []) (sym (append-nil header))
+      ∙ ap (λ back. (header ++ []) ++ back) (sym (drop_at header (closed_gate ∷ []) 16 length-header));
   place = ap length (append-nil header) ∙ length-header;
   fit = tt;
 }
 
 pub returns-in-Ok-clause-any_moment : goal.returns-in-Ok-clause-any_moment
 returns-in-Ok-clause-any_moment g c = λ content payloads told only stands.
-    LeavesOnly-weaker (λ image. StandsForPayloads image payloads) (c.in-Ok.ensures.any_moment content told only) (λ image left. StandsForPayloads-opening content image payloads stands left)
+    LeavesOnly-weaker (λ image. StandsForPayloads image payloads) (c.in-Ok.ensures.any_moment content told only)
+    (λ image left. StandsForPayloads-opening content image payloads stands left)
 
 pub returns-in-Err-clause-any_moment : goal.returns-in-Err-clause-any_moment
 returns-in-Err-clause-any_moment g c = λ content payloads told only stands.
-    LeavesOnly-weaker (λ image. StandsForPayloads image payloads) (c.in-Err.ensures.any_moment content told only) (λ image left. StandsForPayloads-opening content image payloads stands left)
+    LeavesOnly-weaker (λ image. StandsForPayloads image payloads) (c.in-Err.ensures.any_moment content told only)
+    (λ image left. StandsForPayloads-opening content image payloads stands left)
 
 pub returns-in-Err-clause-not_a_journal : goal.returns-in-Err-clause-not_a_journal
 returns-in-Err-clause-not_a_journal g c = λ content offset told is.

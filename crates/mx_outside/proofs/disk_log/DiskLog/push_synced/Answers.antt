@@ -8,7 +8,8 @@ use Rattle.mx_outside.proofs.disk_log.DiskLog.push_synced.Goals as goal
 
 pub push_reserved-requires : goal.push_reserved-requires
 push_reserved-requires c =
-    let fits = covered_fits c.self.inside.calls.items c.self.inside.bytes.items _ _ 0 c.args.self.now c.self.view_is c.self.invariant (omega arith) c.requires in
+    let fits = covered_fits c.self.inside.calls.items c.self.inside.bytes.items _ _ 0 c.args.self.now c.self.view_is
+    c.self.invariant (omega arith) c.requires in
     omega arith
 
 pub invariant_of-self : goal.invariant_of-self
@@ -18,4 +19,5 @@ invariant_of-self c =
 
 pub returns-clause-changes : goal.returns-clause-changes
 returns-clause-changes c =
-    rw c.push_reserved.ensures.items (changes_after-synced [] c.self.inside.calls.items c.self.inside.bytes.items ∙ ap (λ (log : Log). synced ∷ log.changes) c.self.view_is)
+    rw c.push_reserved.ensures.items (changes_after-synced [] c.self.inside.calls.items c.self.inside.bytes.items
+    ∙ ap (λ (log : Log). synced ∷ log.changes) c.self.view_is)

@@ -8,4 +8,7 @@ use Rattle.mx_outside.proofs.memory_disk.MemoryDisk.write_here.Goals as goal
 pub returns-in_err-reserve-clause-within : goal.returns-in_err-reserve-clause-within
 returns-in_err-reserve-clause-within c = λ covers.
     let inside = c.self.inside in
-    absurd (false≢true (c.in_err-reserve.ensures.within (covered_end inside.first.items inside.image inside.log c.args.self.now c.args.at (length c.args.piece.now) (rw (← c.self.view_is) c.self.invariant) (ap (λ (disk : Medium). disk.first) c.self.view_is) (ap (λ (disk : Medium). disk.changes) c.self.view_is) c.requires.place covers)))
+    absurd (false≢true (c.in_err-reserve.ensures.within
+    (covered_end inside.first.items inside.image inside.log c.args.self.now c.args.at (length c.args.piece.now)
+    (rw (← c.self.view_is) c.self.invariant) (ap (λ (disk : Medium). disk.first) c.self.view_is)
+    (ap (λ (disk : Medium). disk.changes) c.self.view_is) c.requires.place covers)))
