@@ -45,6 +45,7 @@ pub record Happening : Type 0 where
 abbrev pub happening_by : History → Input → Option Happening
 happening_by before (Event event) = Some (record { before = before; event = event })
 
+-- what happens at an arrival
 abbrev pub happening_of : Arrival → Option Happening
 happening_of arrival = happening_by arrival.before arrival.input
 

@@ -15,6 +15,7 @@ use Rattle.mx_records.specs.History.{History, events, inputs_of, position_after}
 abbrev pub is_local : List ℕ → List ℕ → Bool
 is_local server user = is_some (localpart_of server user)
 
+-- the event has this id
 abbrev pub is_named : List ℕ → Json → Bool
 is_named id event = bytes_eq (event_id_of event) id
 
