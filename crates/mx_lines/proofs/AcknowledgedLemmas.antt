@@ -1,16 +1,16 @@
 -- Lemmas on what a run acknowledges.
-use Rattle.std.proofs.Common.{◌≡◌, ℕ, ◌+◌, ◌<◌, ◌≤◌, ◌⊎◌, inl, inr, Bool, true, false, cond, if◌then◌else◌, List, [], ◌∷◌, ◌++◌, Some, Option, length, take, refl, sym, ap, ap₂, ◌∙◌, arith, suc, zero, add-one}
+use Rattle.std.proofs.Common.{◌≡◌, ℕ, ◌+◌, ◌<◌, ◌≤◌, ◌⊎◌, inl, inr, Bool, true, false, cond, if◌then◌else◌, List, [], ◌∷◌, ◌++◌, Some, length, take, refl, sym, ap, ap₂, ◌∙◌, arith, suc, zero, add-one}
 use Rattle.std.specs.List.{slice_get, filter, count_by}
 use Rattle.std.proofs.lemmas.List.{append-nil, take-append-le}
 use Rattle.std.proofs.lemmas.List.Sums.{length-filter, sum_by_push}
 use Rattle.mx_records.specs.History.{History}
 use Rattle.mx_lines.specs.Lines.{IsOneLine, with_feed}
 use Rattle.mx_lines.specs.Admission.{after, reply}
-use Rattle.mx_lines.specs.Runs.{Run, Point, is_answer, past_begun, past_line, past, point_of, point_at, point_now, input_lines, output_lines, begun, lines_until, last_line, acknowledged, answers_begun, after_lines, told, IsNext}
-use Rattle.mx_lines.specs.Laws.{IsTurn, LineLaws, WholeLaws, BegunLaws, IsLawful, Agrees}
+use Rattle.mx_lines.specs.Runs.{Run, Point, is_answer, past_begun, past_line, past, point_of, point_at, point_now, input_lines, output_lines, begun, last_line, acknowledged, answers_begun, after_lines, told}
+use Rattle.mx_lines.specs.Laws.{IsTurn, LineLaws, WholeLaws, IsLawful, Agrees}
 use Rattle.mx_lines.proofs.LinesLemmas.{IsOneLine-take}
 use Rattle.mx_lines.proofs.RunsLemmas.{begun-part, point_now-part}
-use Rattle.mx_lines.proofs.AnswerLemmas.{past_line-answer}
+use Rattle.mx_lines.proofs.AnswerLemmas.{IsNext, past_line-answer}
 use Rattle.mx_lines.proofs.ReplyLemmas.{is_answer-reply}
 
 -- at a line's end each answer counts

@@ -1,16 +1,20 @@
 -- Lemmas on the answer to the next line of a run, and on a run that takes more input.
-use Rattle.std.proofs.Common.{◌≡◌, ℕ, ◌+◌, ◌≤◌, true, List, [], ◌++◌, Some, length, refl, sym, ap, ◌∙◌, arith}
+use Rattle.std.proofs.Common.{◌≡◌, ℕ, ◌+◌, true, List, [], ◌++◌, Some, length, refl, sym, ap, ◌∙◌, arith}
 use Rattle.std.specs.List.{slice_get}
 use Rattle.std.proofs.lemmas.List.{append-nil}
 use Rattle.std.proofs.lemmas.Bool.{false≢true}
 use Rattle.mx_records.specs.History.{History}
 use Rattle.mx_lines.specs.Lines.{lines_of, IsOneLine, with_feed}
 use Rattle.mx_lines.specs.Admission.{after, reply}
-use Rattle.mx_lines.specs.Runs.{Run, Point, is_answer, past_line, point_at, point_now, input_lines, output_lines, told, IsNext}
+use Rattle.mx_lines.specs.Runs.{Run, Point, is_answer, past_line, point_at, point_now, input_lines, output_lines, told}
 use Rattle.mx_lines.specs.Laws.{LineLaws, Agrees}
 use Rattle.mx_lines.proofs.RunsLemmas.{Grows, point_at-grows, point_now-told}
 use Rattle.mx_lines.proofs.LawsLemmas.{HaveLines-laws, WholeLaws-more}
 use Rattle.mx_lines.proofs.ReplyLemmas.{is_answer-reply}
+
+-- this is the next line without an answer
+abbrev pub IsNext : List ℕ → History → Run → List ℕ → Type 0
+IsNext server h0 run line = slice_get (input_lines run) (point_now server h0 run).answered ≡ Some line
 
 -- the reply to the next line keeps the laws
 pub LineLaws-reply : (server : List ℕ) (h0 : History) (run : Run) (now : History) (line : List ℕ)

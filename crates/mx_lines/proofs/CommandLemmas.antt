@@ -1,5 +1,5 @@
 -- The command of an input, by what the input is read as.
-use Rattle.std.proofs.Common.{◌≡◌, ◌⊎◌, inl, inr, List, Option, None, Some, Result, Ok, Err, sym, ap, ◌∙◌}
+use Rattle.std.proofs.Common.{◌≡◌, ◌⊎◌, inl, inr, Option, None, Some, Result, Ok, Err, sym, ap, ◌∙◌}
 use Rattle.std.specs.Option.{option_map_or}
 use Rattle.mx_json.specs.declared.value.Json.{Json}
 use Rattle.mx_event.specs.Event.{first_wrong}
@@ -7,7 +7,7 @@ use Rattle.mx_records.specs.declared.field_name.FieldName.{FieldName}
 use Rattle.mx_records.specs.declared.input.Input.{Input}
 use Rattle.mx_records.specs.declared.input_error.InputError.{InputError}
 use Rattle.mx_records.specs.declared.input_error.InputError.TheVariants as input_error
-use Rattle.mx_records.specs.Forms.{Form, value_of_form, input_form_in, input_in}
+use Rattle.mx_records.specs.Forms.{Form, input_form_in, input_in}
 use Rattle.mx_lines.specs.declared.command.Command.{Command}
 use Rattle.mx_lines.specs.declared.command.Command.TheVariants.{Input as InputCommand}
 use Rattle.mx_lines.specs.declared.command.LineRefusal.{LineRefusal}

@@ -1,12 +1,9 @@
 -- A reply is one line, and begins as an answer; what is replied is a valid value.
-use Rattle.std.proofs.Common.{◌≡◌, ◌≢◌, ℕ, ◌<◌, ◌≤◌, ◌==◌, pos, Bool, true, false, List, [], ◌∷◌, ◌++◌, codes, refl, arith}
-use Rattle.std.proofs.lemmas.Bool.{and_from, le-leb}
+use Rattle.std.proofs.Common.{◌≡◌, ℕ, ◌≤◌, ◌==◌, true, false, List, [], ◌∷◌, refl, arith}
 use Rattle.std.proofs.lemmas.Bool.Decides.{nat_tests}
 use Rattle.mx_json.specs.declared.value.Json.{Json}
 use Rattle.mx_json.specs.Canonical.{canonical}
-use Rattle.mx_json.specs.Json.{is_valid, is_whole, largest_whole}
 use Rattle.mx_json.proofs.LineLemmas.{HasNoControl, HasNoControl-canonical}
-use Rattle.mx_json.proofs.ObjectLemmas.{is_fit, is_fit-Whole, is_fit-Text, is_fit_from, is_valid-Object}
 use Rattle.mx_records.specs.History.{History}
 use Rattle.mx_lines.specs.Admission.{admission_of, reply_by, reply}
 use Rattle.mx_lines.specs.Lines.{IsOneLine}

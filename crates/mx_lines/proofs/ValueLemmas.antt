@@ -1,7 +1,6 @@
 -- What is replied is a valid value.
 use Rattle.std.proofs.Common.{◌≡◌, ℕ, ◌≤◌, pos, Bool, true, false, List, [], ◌∷◌, ◌++◌, codes, refl, ap, ap₂, ◌∙◌, arith}
 use Rattle.std.proofs.lemmas.Bool.{and_from, le-leb}
-use Rattle.std.specs.Str.{is_utf8}
 use Rattle.mx_json.specs.declared.value.Json.{Json, Text, Object}
 use Rattle.mx_json.specs.declared.value.JsonObject.{JsonObject}
 use Rattle.mx_json.specs.Json.{is_valid, is_whole, largest_whole}

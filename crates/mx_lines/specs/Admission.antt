@@ -23,7 +23,8 @@ Admission = Result Command Denial
 -- why the history refuses a command: an input as it says, a question whose user isn't local
 abbrev pub refusal_to : List ℕ → History → Command → Option Refusal
 refusal_to server h (Input input) = refusal_of server h input
-refusal_to server h (Counts user room threads) = if is_local server user then None else Some NotLocal
+refusal_to server h (Counts user room threads) =
+    if is_local server user then None else Some NotLocal
 
 -- a command that the history doesn't refuse is followed
 abbrev pub unless_refused : Command → Option Refusal → Admission
@@ -33,10 +34,12 @@ abbrev pub admission_by : List ℕ → History → Result Command LineRefusal �
 admission_by server h (Ok command) = unless_refused command (refusal_to server h command)
 admission_by server h (Err refusal) = Err (Line refusal)
 
--- The admission of a line is its command, or the first refusal that applies: its length is looked at first.
+-- The admission of a line is its command, or the first refusal that applies. Its length is looked
+-- at first.
 unfoldable pub admission_of : List ℕ → History → List ℕ → Admission
 admission_of server h line =
-    if nat_lt longest_line (length line) then Err TooLong else admission_by server h (command_of line)
+    if nat_lt longest_line (length line) then Err TooLong
+    else admission_by server h (command_of line)
 
 abbrev pub after_admission : History → Admission → History
 after_admission h (Ok (Input input)) = with_input h input

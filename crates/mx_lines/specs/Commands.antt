@@ -50,7 +50,9 @@ threads_in line = unwrap_or (truth_at (codes "threads") line) true
 -- `counts`: a user id, a room id, and perhaps a truth value
 abbrev pub counts_form : Json → Form Command
 counts_form line = record {
-  fields = (User, is_user_id (user_in line)) ∷ (RoomId, is_room_id (room_in line)) ∷ (Threads, has_threads_or_none line) ∷ [];
+  fields =
+      (User, is_user_id (user_in line)) ∷ (RoomId, is_room_id (room_in line))
+      ∷ (Threads, has_threads_or_none line) ∷ [];
   value = Counts (user_in line) (room_in line) (threads_in line);
 }
 
@@ -80,12 +82,14 @@ if_built form = option_map_or command_by form (Err NotBuilt)
 -- what a value whose word is no input's is read as
 unfoldable pub question_in : Json → Result Command LineRefusal
 question_in line =
-    option_map_or (λ word. if_built (question_form_of word line)) (question_word_in line) (Err (BadField Cmd))
+    option_map_or (λ word. if_built (question_form_of word line)) (question_word_in line)
+    (Err (BadField Cmd))
 
 -- what a value is read as: `cmd` is looked at first
 unfoldable pub command_in : Json → Result Command LineRefusal
 command_in line =
-    option_map_or (λ word. if_built (accepting_form_of word line)) (input_word_in line) (question_in line)
+    option_map_or (λ word. if_built (accepting_form_of word line)) (input_word_in line)
+    (question_in line)
 
 -- what the outcome of reading JSON is read as, where want of memory is none of its outcomes
 abbrev pub command_from : Result Json JsonError → Result Command LineRefusal

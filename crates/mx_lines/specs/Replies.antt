@@ -37,13 +37,15 @@ error_value name beside = object_of ((codes "error", Text name) ∷ beside)
 abbrev pub line_refusal_value : LineRefusal → Json
 line_refusal_value BadLine = error_value (codes "BadLine") []
 line_refusal_value NotWhole = error_value (codes "NotWhole") []
-line_refusal_value (BadField field) = error_value (codes "BadField") ((codes "field", Text (name_of field)) ∷ [])
+line_refusal_value (BadField field) =
+    error_value (codes "BadField") ((codes "field", Text (name_of field)) ∷ [])
 line_refusal_value NotBuilt = error_value (codes "NotBuilt") []
 
 -- why a history refuses what a line asks for
 abbrev pub refusal_value : Refusal → Json
 refusal_value NotLocal = error_value (codes "NotLocal") []
-refusal_value (KnownEvent position) = error_value (codes "KnownEvent") ((codes "position", number_of position) ∷ [])
+refusal_value (KnownEvent position) =
+    error_value (codes "KnownEvent") ((codes "position", number_of position) ∷ [])
 refusal_value Full = error_value (codes "Full") ((codes "limit", number_of most_inputs) ∷ [])
 
 -- why a line is refused
@@ -63,9 +65,10 @@ NamesInRange (Input refusal) = NamesAPosition refusal
 -- the two numbers
 abbrev pub numbers_of : Counts → List (List ℕ × Json)
 numbers_of counts =
-    (codes "highlight_count", number_of counts.highlight) ∷ (codes "notification_count", number_of counts.notify) ∷ []
+    (codes "highlight_count", number_of counts.highlight)
+    ∷ (codes "notification_count", number_of counts.notify) ∷ []
 
--- the numbers of the main thread, and under `threads` those of each other thread, of which there are none yet
+-- the numbers of the main thread, and under `threads` those of each other one, of which none is yet
 abbrev pub by_thread : Counts → Json
 by_thread counts = object_of (numbers_of counts ++ (codes "threads", object_of []) ∷ [])
 
@@ -73,6 +76,7 @@ by_thread counts = object_of (numbers_of counts ++ (codes "threads", object_of [
 abbrev pub in_sum : Counts → Json
 in_sum counts = object_of (numbers_of counts)
 
--- the counts, thread by thread or in sum; while every event is in the main thread its numbers are the sums
+-- The counts, thread by thread or in sum. While every event is in the main thread its numbers are
+-- the sums.
 unfoldable pub counts_value : Bool → Counts → Json
 counts_value threads counts = if threads then by_thread counts else in_sum counts

@@ -1,5 +1,5 @@
 -- A run of the server as plain data, and how far its output has taken the history: ours.
-use Rattle.std.specs.Prelude.{◌≡◌, ℕ, zero, suc, ◌+◌, Bool, true, false, ◌==◌, List, [], ◌∷◌, ◌++◌, length, count_by, Option, None, Some, slice_get, if◌then◌else◌}
+use Rattle.std.specs.Prelude.{ℕ, zero, suc, ◌+◌, Bool, true, false, ◌==◌, List, [], ◌∷◌, ◌++◌, length, count_by, Option, None, Some, slice_get, if◌then◌else◌}
 use Rattle.mx_lines.specs.Lines.{lines_of}
 use Rattle.mx_records.specs.History.{History}
 use Rattle.mx_lines.specs.Admission.{after}
@@ -54,7 +54,8 @@ pub record Point : Type 0 where
 -- past the answer to this line
 abbrev pub past_answer : List ℕ → Point → Option (List ℕ) → Point
 past_answer server p None = p
-past_answer server p (Some line) = record { history = after server p.history line; answered = p.answered + 1 }
+past_answer server p (Some line) =
+    record { history = after server p.history line; answered = p.answered + 1 }
 
 -- past this notice
 abbrev pub past_notice : List ℕ → Point → List ℕ → Point
@@ -100,10 +101,6 @@ answers_begun run = count_by is_answer (lines_until true run.output)
 abbrev pub after_lines : List ℕ → History → List (List ℕ) → History
 after_lines server h [] = h
 after_lines server h (line ∷ lines) = after_lines server (after server h line) lines
-
--- this is the next line without an answer
-abbrev pub IsNext : List ℕ → History → Run → List ℕ → Type 0
-IsNext server h0 run line = slice_get (input_lines run) (point_now server h0 run).answered ≡ Some line
 
 -- the run after the sink took more
 abbrev pub told : Run → List ℕ → Run

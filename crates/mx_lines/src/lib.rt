@@ -1,4 +1,5 @@
-//! Lines: how bytes that come in pieces are cut into them, what a line is read as, and what is replied.
+//! Lines: how bytes that come in pieces are cut into them, what a line is read as, what is replied,
+//! and what a run over them is.
 //!
 //! A [`LineCutter`] is fed pieces and gives their lines, which are the same however the bytes
 //! were cut: the definition of the lines of bytes (`specs/Lines.antt`) knows nothing of pieces.

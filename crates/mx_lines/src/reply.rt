@@ -23,7 +23,8 @@ mod tests;
 /// `OutOfMemory` where the allocator has none.
 pub fn ok_into(alloc: Global, position: u64, out: &mut Vec<u8>) -> Result<(), OutOfMemory>
     requires { position ≤ largest_whole }
-    ensures text { OnOk result (out.new.items ≡ out.old.items ++ with_feed (reply_text (ok_value position))) }
+    ensures text { OnOk result
+        (out.new.items ≡ out.old.items ++ with_feed (reply_text (ok_value position))) }
     ensures err { OnErr result (out.new.items ≡ out.old.items) }
 {
     value_into(alloc, &ok_value(alloc, position)?, out)
@@ -37,7 +38,8 @@ pub fn ok_into(alloc: Global, position: u64, out: &mut Vec<u8>) -> Result<(), Ou
 /// `OutOfMemory` where the allocator has none.
 pub fn denied_into(alloc: Global, denial: &Denial, out: &mut Vec<u8>) -> Result<(), OutOfMemory>
     requires { NamesInRange denial.now }
-    ensures text { OnOk result (out.new.items ≡ out.old.items ++ with_feed (reply_text (denied_value denial.now))) }
+    ensures text { OnOk result
+        (out.new.items ≡ out.old.items ++ with_feed (reply_text (denied_value denial.now))) }
     ensures err { OnErr result (out.new.items ≡ out.old.items) }
 {
     value_into(alloc, &denied_value(alloc, denial)?, out)
@@ -58,7 +60,7 @@ pub fn reply_into<Q: Questions>(
     requires { IsQuestion (Q.server questions.now) command.now }
     ensures text { (h : History) → Q.snapshot questions.now ≡ snapshot_of (Q.server questions.now) h
         → OnOk result (out.new.items ≡ out.old.items
-          ++ with_feed (reply_text (reply_to (Q.server questions.now) h command.now))) }
+        ++ with_feed (reply_text (reply_to (Q.server questions.now) h command.now))) }
     ensures err { OnErr result (out.new.items ≡ out.old.items) }
 {
     match command {
@@ -79,7 +81,8 @@ fn counts_into(
 ) -> Result<(), OutOfMemory>
     requires notify { counts.notify ≤ most_inputs }
     requires highlight { counts.highlight ≤ most_inputs }
-    ensures text { OnOk result (out.new.items ≡ out.old.items ++ with_feed (reply_text (counts_value threads counts))) }
+    ensures text { OnOk result
+        (out.new.items ≡ out.old.items ++ with_feed (reply_text (counts_value threads counts))) }
     ensures err { OnErr result (out.new.items ≡ out.old.items) }
 {
     value_into(alloc, &counts_value(alloc, counts, threads)?, out)

@@ -15,9 +15,9 @@ use Rattle.mx_records.specs.Snapshot.{Snapshot, snapshot_of}
 use Rattle.push_server.specs.declared.halt.Halt.TheVariants as halt
 use Rattle.mx_lines.specs.Admission.{after, reply, admission_of}
 use Rattle.push_server.specs.Answered.{IsAnswered}
-use Rattle.mx_lines.specs.Runs.{Run, Point, point_now, input_lines, told, IsNext}
+use Rattle.mx_lines.specs.Runs.{Run, Point, point_now, input_lines, told}
 use Rattle.mx_lines.specs.Laws.{Agrees}
-use Rattle.mx_lines.proofs.AnswerLemmas.{LineLaws-reply, point_now-answer}
+use Rattle.mx_lines.proofs.AnswerLemmas.{IsNext, LineLaws-reply, point_now-answer}
 use Rattle.push_server.specs.Headline.{HaltsAt}
 use Rattle.push_server.specs.Steps.{GoesOn, AnswersCut, ShowsNext, IsHalted}
 use Rattle.mx_lines.proofs.RunsLemmas.{begun-told, point_now-part}

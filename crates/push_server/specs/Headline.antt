@@ -44,8 +44,8 @@ HaltsAt halt.OutOfMemory server h0 run = BeginsNothing run
 HaltsAt halt.WriteFault server h0 run = LacksAnswer server h0 run
 
 -- what the call read and wrote, where both are told, is a lawful run that ends well
-pub record HasLawfulRun (limit : ℕ) (server : List ℕ) (h0 : History) (left : List ℕ) (left_now : Option (List ℕ))
-    (before : List ℕ) (taken_now : Option (List ℕ)) (status : Status) : Type 0 where
+pub record HasLawfulRun (limit : ℕ) (server : List ℕ) (h0 : History) (left : List ℕ)
+    (left_now : Option (List ℕ)) (before : List ℕ) (taken_now : Option (List ℕ)) (status : Status) : Type 0 where
   pub rest : List ℕ
   pub left_told : left_now ≡ Some rest
   pub after : List ℕ
@@ -55,7 +55,8 @@ pub record HasLawfulRun (limit : ℕ) (server : List ℕ) (h0 : History) (left :
   pub lawful : IsLawful server h0 run
   pub ends_well : EndsWell limit status server h0 run
   -- what is acknowledged are the lines whose answer was begun, and no others
-  pub acknowledges : acknowledged server h0 run ≡ after_lines server h0 (take (answers_begun run) (input_lines run))
+  pub acknowledges :
+      acknowledged server h0 run ≡ after_lines server h0 (take (answers_begun run) (input_lines run))
 
 -- where the source tells what it has left and the sink what it took, the call has a lawful run
 abbrev pub HasLawfulRunOf : ℕ → List ℕ → History → Option (List ℕ) → Option (List ℕ) → Option (List ℕ)

@@ -23,7 +23,8 @@ pub fn answer(
     requires { IsShort cut }
     ensures server { engine.new.server ≡ engine.old.server }
     ensures answered { (h : History) → engine.old.shown ≡ snapshot_of engine.old.server h
-        → OnOk result (AnswersCut engine.old.server h cut.entry engine.new.shown out.old.items out.new.items) }
+        → OnOk result (AnswersCut engine.old.server h cut.entry engine.new.shown
+        out.old.items out.new.items) }
 {
     match cut {
         Cut::Line(line) => answer_line(alloc, engine, line, out),
@@ -43,7 +44,7 @@ fn answer_line(
     ensures server { engine.new.server ≡ engine.old.server }
     ensures answered { (h : History) → engine.old.shown ≡ snapshot_of engine.old.server h
         → OnOk result (IsAnswered engine.old.server h (admission_of engine.old.server h line.now)
-          engine.new.shown out.old.items out.new.items) }
+        engine.new.shown out.old.items out.new.items) }
 {
     match read(alloc, line) {
         Ok(command) => follow(alloc, engine, &command, out),
@@ -61,8 +62,9 @@ fn follow(
 ) -> Result<(), OutOfMemory>
     ensures server { engine.new.server ≡ engine.old.server }
     ensures answered { (h : History) → engine.old.shown ≡ snapshot_of engine.old.server h
-        → OnOk result (IsAnswered engine.old.server h (admission_by engine.old.server h (Ok command.now))
-          engine.new.shown out.old.items out.new.items) }
+        → OnOk result (IsAnswered engine.old.server h
+        (admission_by engine.old.server h (Ok command.now))
+        engine.new.shown out.old.items out.new.items) }
 {
     match command {
         Command::Input(input) => accept(alloc, engine, input, out),
@@ -86,8 +88,8 @@ fn accept(
     ensures server { engine.new.server ≡ engine.old.server }
     ensures answered { (h : History) → engine.old.shown ≡ snapshot_of engine.old.server h
         → OnOk result (IsAnswered engine.old.server h
-          (admission_by engine.old.server h (Ok (Command.Input input.now)))
-          engine.new.shown out.old.items out.new.items) }
+        (admission_by engine.old.server h (Ok (Command.Input input.now)))
+        engine.new.shown out.old.items out.new.items) }
 {
     match engine.prepare(alloc, input) {
         Ok(plan) => ok_into(alloc, engine.apply(plan), out),

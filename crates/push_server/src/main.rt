@@ -5,6 +5,7 @@
 #![tactic(auto)]
 
 mod answer;
+mod command_line;
 mod halt;
 mod pieces;
 mod serve;
@@ -14,7 +15,6 @@ mod standard_output;
 mod status;
 #[cfg(test)]
 mod tests;
-mod command_line;
 mod writing;
 
 use serve::serve;

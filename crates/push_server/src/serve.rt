@@ -3,10 +3,10 @@ ghost use Rattle.mx_outside.specs.Told.{Rose};
 ghost use Rattle.push_server.specs.CommandLine.{AreRunWords};
 ghost use Rattle.push_server.specs.Headline.{HasLawfulRunOf};
 
+use crate::command_line::server_of;
 use crate::pieces::{piece_buffer, read_piece};
 use crate::session::Session;
 use crate::status::Status;
-use crate::command_line::server_of;
 use mx_outside::{Got, Sink, Source};
 use std::alloc::Global;
 
@@ -30,7 +30,7 @@ pub fn serve_within<S: Source, K: Sink>(
     // What was read and written is a lawful run.
     ensures lawful { (server : List ℕ) → AreRunWords (map string_bytes words.now) server
         → HasLawfulRunOf limit server [] (S.left source.old) (S.left source.new)
-          (K.taken sink.old) (K.taken sink.new) result }
+        (K.taken sink.old) (K.taken sink.new) result }
 
     // A fault has its cause, and the first one ends the run.
     ensures read { result ≡ Status.ReadFault → Rose (S.faults source.old) (S.faults source.new) }
@@ -71,7 +71,7 @@ pub fn serve<S: Source, K: Sink>(
 
     ensures lawful { (server : List ℕ) → AreRunWords (map string_bytes words.now) server
         → HasLawfulRunOf (2 ^ 30) server [] (S.left source.old) (S.left source.new)
-          (K.taken sink.old) (K.taken sink.new) result }
+        (K.taken sink.old) (K.taken sink.new) result }
 
     ensures read { result ≡ Status.ReadFault → Rose (S.faults source.old) (S.faults source.new) }
     ensures read_count { S.faults source.old ≤ S.faults source.new }

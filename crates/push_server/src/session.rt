@@ -47,12 +47,15 @@ impl Session {
         requires { self.old.lines.ended ≡ false }
         ensures ready { OnOk result (self.new.lines.ended ≡ false) }
         ensures server { self.new.engine.server ≡ self.old.engine.server }
-        ensures extends { (h0 : History) (run : Run) (bytes : List ℕ) → run.input ≡ bytes ++ piece.now
+        ensures extends { (h0 : History) (run : Run) (bytes : List ℕ)
+            → run.input ≡ bytes ++ piece.now
             → AnswersUpTo bytes self.old.engine.server h0 run self.old.engine.shown self.old.lines
             → Writes (K.taken sink.old) (K.taken sink.new)
-              (AnswersPiece self.old.engine.server h0 run result self.new.engine.shown self.new.lines) }
+            (AnswersPiece self.old.engine.server h0 run result
+            self.new.engine.shown self.new.lines) }
         ensures count { K.faults sink.old ≤ K.faults sink.new }
-        ensures fault { result ≡ Err Halt.WriteFault → Rose (K.faults sink.old) (K.faults sink.new) }
+        ensures fault { result ≡ Err Halt.WriteFault
+            → Rose (K.faults sink.old) (K.faults sink.new) }
         ensures steady { result ≢ Err Halt.WriteFault → K.faults sink.new ≡ K.faults sink.old }
     {
         let mut at = 0;
@@ -73,10 +76,13 @@ impl Session {
     pub fn finish<K: Sink>(&mut self, alloc: Global, sink: &mut K) -> Result<(), Halt>
         requires { self.old.lines.ended ≡ false }
         ensures extends { (h0 : History) (run : Run) → run.ended ≡ true
-            → AnswersUpTo run.input self.old.engine.server h0 run self.old.engine.shown self.old.lines
-            → Writes (K.taken sink.old) (K.taken sink.new) (AnswersAll self.old.engine.server h0 run result) }
+            → AnswersUpTo run.input self.old.engine.server h0 run
+            self.old.engine.shown self.old.lines
+            → Writes (K.taken sink.old) (K.taken sink.new)
+            (AnswersAll self.old.engine.server h0 run result) }
         ensures count { K.faults sink.old ≤ K.faults sink.new }
-        ensures fault { result ≡ Err Halt.WriteFault → Rose (K.faults sink.old) (K.faults sink.new) }
+        ensures fault { result ≡ Err Halt.WriteFault
+            → Rose (K.faults sink.old) (K.faults sink.new) }
         ensures steady { result ≢ Err Halt.WriteFault → K.faults sink.new ≡ K.faults sink.old }
     {
         answer_cut(
@@ -103,7 +109,8 @@ fn answer_cut<K: Sink>(
         → GoesOn engine.old.server h0 run engine.old.shown answered
         → ShowsNext cut.entry (input_lines run) answered
         → Writes (K.taken sink.old) (K.taken sink.new)
-          (StepsTo engine.old.server h0 run (answered + shown_count cut.entry) result engine.new.shown) }
+        (StepsTo engine.old.server h0 run (answered + shown_count cut.entry) result
+        engine.new.shown) }
     ensures count { K.faults sink.old ≤ K.faults sink.new }
     ensures fault { result ≡ Err Halt.WriteFault → Rose (K.faults sink.old) (K.faults sink.new) }
     ensures steady { result ≢ Err Halt.WriteFault → K.faults sink.new ≡ K.faults sink.old }

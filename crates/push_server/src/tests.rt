@@ -1,5 +1,6 @@
 mod refusals;
 mod serving;
+mod watching;
 
 use crate::command_line::server_of;
 use crate::writing::write_all;
