@@ -12,19 +12,7 @@ pub tried_all : (m p v reached : ℕ) → m ≤ p → m * (v + 1 - m - reached) 
 tried_all zero p v reached below = omega arith
 tried_all (suc m) p v reached below = mul-le-mul below (omega arith)
 
--- the reads of one more search, which ends at a place, after those up to where it began
-pub next_try : (m from reached place : ℕ) → from ≤ reached → reached ≤ place → m * (place + 1 - reached) + 1 + (m + 1) * (reached - from) ≤ (m + 1) * (place + 1 - from)
-next_try m from reached place a b =
-    let e = ap (λ t. m * t) (through from reached (place + 1) a (omega arith)) in
-    omega arith
-
-pub last_try : (m v from reached place : ℕ) → from ≤ reached → reached ≤ place → place + m ≤ v → m * (place + 1 - reached) + (m + 1) * (reached - from) ≤ (m + 1) * (v - from)
-last_try zero v from reached place a b room = omega arith
-last_try (suc m) v from reached place a b room =
-    let e = ap (λ t. suc m * t) (through from reached v a (omega arith)) in
-    let less : suc m * (place + 1 - reached) ≤ suc m * (v - reached) = mul-le-mul_left (suc m) (omega arith) in
-    omega arith
-
+-- the reads of a search that found no place, after those up to where it began
 pub no_try : (m p v from reached : ℕ) → m ≤ p → from ≤ reached → reached ≤ v → m * (v + 1 - m - reached) + (p + 1) * (reached - from) ≤ (p + 1) * (v - from)
 no_try m p v from reached below a b =
     let e = ap (λ t. p * t) (through from reached v a b) in

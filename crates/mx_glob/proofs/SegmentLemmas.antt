@@ -5,8 +5,8 @@ use Rattle.std.proofs.lemmas.List.{append-nil}
 use Rattle.std.proofs.lemmas.Option.{slice_get_past}
 use Rattle.mx_glob.specs.Glob.{star}
 use Rattle.mx_glob.specs.Words.{is_outside}
-use Rattle.mx_glob.specs.declared.rest.End.TheVariants.{Text}
-use Rattle.mx_glob.specs.Leads.{TakesAt, Agrees, IsPlain, IsPlace, Leads, LeadsOn, ends_at}
+use Rattle.mx_glob.specs.declared.rest.End.TheVariants.{Text, Word}
+use Rattle.mx_glob.specs.Leads.{TakesAt, Agrees, IsPlain, IsPlace, IsEndPlace, Leads, LeadsOn, ends_at}
 
 -- a segment consumes as many characters as it has
 pub Leads-plain : (ends : ℕ → Bool) (text segment rest : List ℕ) (k : ℕ) → IsPlain segment → Leads ends text (segment ++ rest) k → Agrees text segment k × Leads ends text rest (k + length segment)
@@ -86,30 +86,13 @@ LeadsOn-from_text text segment from plain room agrees =
     (length text - length segment, omega arith, omega arith, Leads-from_segment (ends_at Text text) text segment _ plain agrees (eq-eqb _ _ ended))
 
 -- a place that serves, and one that doesn't
-pub LeadsOn-found : (ends : ℕ → Bool) (text segment : List ℕ) (from place : ℕ) → IsPlain segment → from ≤ place → IsPlace text segment place → IsTrue (ends (place + length segment)) → LeadsOn ends text segment from
-LeadsOn-found ends text segment from place plain reached here ended =
-    (place, reached, in_text text segment place here, Leads-from_segment ends text segment place plain here.agrees ended)
+-- the segment leads to an end of a word exactly where it stands at one
+pub LeadsOn-end_place : (text segment : List ℕ) (from : ℕ) → IsPlain segment → LeadsOn (ends_at Word text) text segment from → (place : ℕ) × (from ≤ place) × IsEndPlace text segment place
+LeadsOn-end_place text segment from plain on =
+    let parts = Leads-segment (ends_at Word text) text segment on.0 plain on.3 in
+    let here : IsPlace text segment on.0 = record { in_text = Agrees-in_text text segment on.0 on.2 parts.0; agrees = parts.0 } in
+    (on.0, on.1, record { place = here; ends = parts.1 })
 
-pub LeadsOn-next : (ends : ℕ → Bool) (text segment : List ℕ) (from place : ℕ) → IsPlain segment → ((j : ℕ) → from ≤ j → j < place → IsPlace text segment j → ⊥) → (IsTrue (ends (place + length segment)) → ⊥) → LeadsOn ends text segment from → LeadsOn ends text segment (place + 1)
-LeadsOn-next ends text segment from place plain first inside on =
-    let parts = Leads-segment ends text segment on.0 plain on.3 in
-    let found : IsPlace text segment on.0 = record { in_text = Agrees-in_text text segment on.0 on.2 parts.0; agrees = parts.0 } in
-    let later : place + 1 ≤ on.0 =
-    elim (cases_lt on.0 place) [
-      | inl before ↦ absurd (first on.0 on.1 before found)
-      | inr at ↦
-          elim (cases_lt place on.0) [
-            | inl after ↦ omega arith
-            | inr same ↦ let e : on.0 ≡ place = omega arith in absurd (inside (subst (λ k. IsTrue (ends (k + length segment))) e parts.1))
-          ]
-    ]
-    in
-    (on.0, later, on.2, on.3)
-
--- a word's character stands before the end of the text
-pub before_end : (text : List ℕ) (k : ℕ) → (IsTrue (is_outside (slice_get text k)) → ⊥) → k < length text
-before_end text k inside =
-    elim (cases_lt k (length text)) [
-      | inl here ↦ here
-      | inr past ↦ absurd (inside (subst (λ o. IsTrue (is_outside o)) (sym (slice_get_past text k past)) refl))
-    ]
+pub LeadsOn-from_end_place : (text segment : List ℕ) (from place : ℕ) → IsPlain segment → from ≤ place → IsEndPlace text segment place → LeadsOn (ends_at Word text) text segment from
+LeadsOn-from_end_place text segment from place plain reached here =
+    (place, reached, in_text text segment place here.place, Leads-from_segment (ends_at Word text) text segment place plain here.place.agrees here.ends)

@@ -50,7 +50,12 @@ pub record IsPlace (text segment : List ℕ) (k : ℕ) : Type 0 where
   pub in_text : k + length segment ≤ length text
   pub agrees : Agrees text segment k
 
--- It does so at the start of a word, and where that is asked for its end is one of a word.
+-- It does so, and a word ends behind it.
+pub record IsEndPlace (text segment : List ℕ) (k : ℕ) : Type 0 where
+  pub place : IsPlace text segment k
+  pub ends : IsTrue (is_outside (slice_get text (k + length segment)))
+
+-- It agrees at the start of a word, and where that is asked for its end is one of a word.
 pub record IsWordPlace (text segment : List ℕ) (whole : Bool) (k : ℕ) : Type 0 where
   pub place : IsPlace text segment k
   pub begins : IsTrue (is_outside (character_before text k))

@@ -21,7 +21,7 @@ const MOST_BYTES: usize = 1024;
 
 /// A glob pattern (Client-Server API v1.11, "Conditions for push rules", event_match): `*` matches
 /// any number of characters, `?` one, and every other character itself, case apart.
-#[derive(Debug, Drop)]
+#[derive(Drop)]
 pub struct Glob {
     pattern: Folded,
     // Whether a word match may search for the pattern as it stands.
@@ -60,7 +60,8 @@ impl Glob {
     }
 
     /// Whether the glob matches the whole value. It takes no memory. With p characters of the
-    /// folded pattern and v of the value it reads at most (p + 1)(v + 1) characters.
+    /// folded pattern and v of the value it reads at most (p + 1)(v + 1) characters: each call of
+    /// `Folded::at` on the value counts, and the pattern is read once, into the scratch.
     pub fn whole(&self, value: &Folded, scratch: &mut Scratch, meter: &mut Meter) -> bool
         ensures matches { IsTrue result ↔ Matches self.now value.now }
         ensures reads { RisesAtMost
@@ -74,7 +75,10 @@ impl Glob {
 
     /// Whether the glob matches a word of the value: some part of it, the empty one included, with
     /// no character of `A-Z a-z 0-9 _` just before and just after. It takes no memory. With p
-    /// characters of the folded pattern and v of the value it reads at most (p + 1)(v + 1).
+    /// characters of the folded pattern and v of the value it reads at most (p + 1)(v + 1): each
+    /// call of `Folded::at` on the value counts, and the pattern is read once, into the scratch. A
+    /// pattern without `*` and `?` that begins inside a word isn't copied: there each call of
+    /// `Folded::at` on it counts too.
     pub fn word(&self, value: &Folded, scratch: &mut Scratch, meter: &mut Meter) -> bool
         ensures matches { IsTrue result ↔ WordMatches self.now value.now }
         ensures reads { RisesAtMost

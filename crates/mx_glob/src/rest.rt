@@ -1,7 +1,7 @@
-ghost use Rattle.std.specs.Prelude.{◌≡◌, ℕ, ◌+◌, ◌-◌, ◌*◌, ◌≤◌, ◌↔◌, ◌∷◌, ◌++◌, length, IfNone, IfSome, IsTrue};
+ghost use Rattle.std.specs.Prelude.{◌≡◌, ℕ, ◌+◌, ◌-◌, ◌*◌, ◌^◌, ◌<◌, ◌≤◌, ◌↔◌, ◌∷◌, ◌++◌, length, IfNone, IfSome, IsTrue};
 ghost use Rattle.mx_json.specs.Folded.{RisesAtMost};
 ghost use Rattle.mx_glob.specs.Glob.{star};
-ghost use Rattle.mx_glob.specs.Leads.{IsPlain, LeadsOn, ends_at};
+ghost use Rattle.mx_glob.specs.Leads.{IsPlain, LeadsOn, ends_at, IsEndPlace};
 ghost use Rattle.mx_glob.specs.declared.rest.End.TheVariants.{Text, Word};
 
 use crate::place::{agrees, find};
@@ -82,12 +82,27 @@ fn ends_word(segment: &[char], value: &Folded, from: usize, meter: &mut Meter) -
         meter.old
         meter.new }
 {
-    let mut from = from;
-    while let Some(place) = find(segment, value, from, meter) {
-        if is_outside(value.at(place + segment.len(), meter)) {
+    if segment.len() > value.len() - from {
+        return false;
+    }
+    let last = value.len() - segment.len();
+    let mut place = from;
+    while place <= last {
+        if ends_word_at(segment, value, place, meter) {
             return true;
         }
-        from = place + 1;
+        place += 1;
     }
     false
+}
+
+/// Whether the segment ends a word, at this place. The word's end is looked at first: so a segment
+/// of `?` alone is gone through once.
+fn ends_word_at(segment: &[char], value: &Folded, place: usize, meter: &mut Meter) -> bool
+    requires in_text { place + length segment.now ≤ length value.now }
+    requires fits { length value.now < 2 ^ 64 }
+    ensures value { IsTrue result ↔ IsEndPlace value.now segment.now place }
+    ensures reads { RisesAtMost (length segment.now + 1) meter.old meter.new }
+{
+    is_outside(value.at(place + segment.len(), meter)) && agrees(segment, value, place, meter)
 }

@@ -51,7 +51,8 @@ pub(crate) fn find_word(
     }
 }
 
-/// Whether a place serves, whose character and the one before it are known.
+/// Whether a place serves, whose character and the one before it are known. The word's end is looked
+/// at before the segment: so a segment of `?` alone is gone through once.
 fn is_word_place(
     segment: &[char],
     value: &Folded,
@@ -70,8 +71,8 @@ fn is_word_place(
 {
     takes_first(segment, here)
         && is_outside(before)
-        && agrees_after(segment, value, place, meter)
         && (!whole || is_outside(character_at(value, place, here, segment.len(), meter)))
+        && agrees_after(segment, value, place, meter)
 }
 
 /// Whether the segment's first character, if any, takes this one.
@@ -119,7 +120,8 @@ fn character_at(
 /// Whether the name is a word of the value: some part of it, the empty one included, with no
 /// character of `A-Z a-z 0-9 _` just before and just after (Client-Server API v1.11, "Conditions
 /// for push rules", contains_display_name). It takes no memory. With n characters of the name and v
-/// of the value it reads at most 2(n + 1)(v + 1).
+/// of the value it reads at most 2(n + 1)(v + 1): each call of `Folded::at` counts, on the value and
+/// on the name.
 pub fn word_literal(name: &Folded, value: &Folded, meter: &mut Meter) -> bool
     ensures word { IsTrue result ↔ HasWord name.now value.now }
     ensures reads { RisesAtMost

@@ -1,15 +1,14 @@
-use Rattle.std.proofs.Common.{◌+◌, ◌-◌, ◌*◌, ◌≤◌, ◌↔◌, length}
+use Rattle.std.proofs.Common.{◌+◌, ◌-◌, ℕ, ◌*◌, ◌<◌, ◌≤◌, length}
 use Rattle.mx_json.specs.Folded.{RisesAtMost}
-use Rattle.mx_glob.specs.Leads.{LeadsOn, ends_at}
-use Rattle.mx_glob.specs.declared.rest.End.TheVariants.{Word}
+use Rattle.mx_glob.specs.Leads.{IsEndPlace}
 use Rattle.mx_glob.proofs.rest.ends_word.Given as goal
 
 abbrev pub invariant-loop-place : goal.invariant-loop-place
 invariant-loop-place l =
-    (l.fn.from ≤ l.from)
-    × (l.from ≤ length l.value)
-    × (LeadsOn (ends_at Word l.value) l.value l.segment l.fn.from ↔ LeadsOn (ends_at Word l.value) l.value l.segment l.from)
-    × RisesAtMost ((length l.segment + 1) * (l.from - l.fn.from)) l.initial.meter l.meter
+    (l.from ≤ l.place)
+    × (l.place ≤ l.last + 1)
+    × RisesAtMost ((length l.segment + 1) * (l.place - l.from)) l.initial.meter l.meter
+    × ((j : ℕ) → l.from ≤ j → j < l.place → IsEndPlace l.value l.segment j → ⊥)
 
 abbrev pub decreases-loop-place : goal.decreases-loop-place
-decreases-loop-place l = length l.value + 1 - l.from
+decreases-loop-place l = l.last + 1 - l.place
