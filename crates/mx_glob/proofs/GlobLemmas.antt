@@ -5,9 +5,9 @@ use Rattle.std.proofs.lemmas.List.{take_all, nil_from_length}
 use Rattle.mx_glob.specs.Glob.{star, Matches}
 use Rattle.mx_glob.specs.Words.{is_outside, character_before, IsWordAt, WordMatches}
 use Rattle.mx_glob.specs.declared.rest.End.TheVariants.{Text, Word}
-use Rattle.mx_glob.specs.Leads.{Agrees, IsPlain, IsWordPlace, Leads, LeadsOn, ends_at, IsFirstFrom}
+use Rattle.mx_glob.specs.Leads.{FitsAt, IsPlain, IsWordPlace, Leads, LeadsOn, ends_at, IsFirstFrom}
 use Rattle.mx_glob.proofs.MatchLemmas.{MatchesFrom-leads, Leads-from_matches}
-use Rattle.mx_glob.proofs.SegmentLemmas.{Leads-plain, Leads-from_plain, Leads-segment, Leads-from_segment, Agrees-in_text, LeadsOn-later}
+use Rattle.mx_glob.proofs.SegmentLemmas.{Leads-plain, Leads-from_plain, Leads-segment, Leads-from_segment, FitsAt-in_text, LeadsOn-later}
 
 all_of : (text : List ℕ) → slice_range text 0 (length text) ≡ text
 all_of text =
@@ -24,7 +24,7 @@ Matches-leads text pattern = (
 )
 
 -- without a star
-pub Matches-plain : (text pattern : List ℕ) → IsPlain pattern → Matches pattern text ↔ ((length pattern ≡ length text) × Agrees text pattern 0)
+pub Matches-plain : (text pattern : List ℕ) → IsPlain pattern → Matches pattern text ↔ ((length pattern ≡ length text) × FitsAt text pattern 0)
 Matches-plain text pattern plain = (
   λ matched.
       let parts = Leads-segment (ends_at Text text) text pattern 0 plain ((Matches-leads text pattern).0 matched) in
@@ -36,7 +36,7 @@ Matches-plain text pattern plain = (
 )
 
 -- with one
-pub Matches-starred : (text first rest : List ℕ) → IsPlain first → Matches (first ++ star ∷ rest) text ↔ (Agrees text first 0 × LeadsOn (ends_at Text text) text rest (length first))
+pub Matches-starred : (text first rest : List ℕ) → IsPlain first → Matches (first ++ star ∷ rest) text ↔ (FitsAt text first 0 × LeadsOn (ends_at Text text) text rest (length first))
 Matches-starred text first rest plain =
     let e : 0 + length first ≡ length first = omega arith in (
       λ matched.
@@ -67,7 +67,7 @@ WordMatches-plain text pattern plain = (
   λ matched.
       let leads = (WordMatches-leads text pattern).0 matched in
       let parts = Leads-segment (ends_at Word text) text pattern leads.0 plain leads.3 in
-      (leads.0, record { place = record { in_text = Agrees-in_text text pattern leads.0 leads.1 parts.0; agrees = parts.0 }; begins = leads.2; ends = λ _. parts.1 }),
+      (leads.0, record { place = record { in_text = FitsAt-in_text text pattern leads.0 leads.1 parts.0; agrees = parts.0 }; begins = leads.2; ends = λ _. parts.1 }),
   λ found. (WordMatches-leads text pattern).1 (found.0, in_text text pattern true found.0 found.1, found.1.begins, Leads-from_segment (ends_at Word text) text pattern found.0 plain found.1.place.agrees (found.1.ends refl)),
 )
 
@@ -75,7 +75,7 @@ WordMatches-plain text pattern plain = (
 word_place : (text first rest : List ℕ) → IsPlain first → LeadsFromWord text (first ++ star ∷ rest) → (a : ℕ) × IsWordPlace text first false a × LeadsOn (ends_at Word text) text rest (a + length first)
 word_place text first rest plain leads =
     let parts = Leads-plain (ends_at Word text) text first (star ∷ rest) leads.0 plain leads.3 in
-    (leads.0, record { place = record { in_text = Agrees-in_text text first leads.0 leads.1 parts.0; agrees = parts.0 }; begins = leads.2; ends = λ never. cc }, parts.1)
+    (leads.0, record { place = record { in_text = FitsAt-in_text text first leads.0 leads.1 parts.0; agrees = parts.0 }; begins = leads.2; ends = λ never. cc }, parts.1)
 
 pub WordMatches-nowhere : (text first rest : List ℕ) → IsPlain first → ((a : ℕ) → IsWordPlace text first false a → ⊥) → WordMatches (first ++ star ∷ rest) text → ⊥
 WordMatches-nowhere text first rest plain nowhere matched =

@@ -5,7 +5,7 @@ use Rattle.std.proofs.lemmas.Bool.Decides.{nat_tests}
 use Rattle.std.proofs.lemmas.List.{drop_more}
 use Rattle.mx_glob.specs.Glob.{star, question}
 use Rattle.mx_glob.specs.Words.{character_before}
-use Rattle.mx_glob.specs.Leads.{takes, TakesAt, Agrees, IsPlain}
+use Rattle.mx_glob.specs.Leads.{takes, TakesAt, FitsAt, IsPlain}
 
 pub IsPlain-push : (xs : List ℕ) (c : ℕ) → IsPlain xs → c == star ≡ false → IsPlain (xs ++ c ∷ [])
 IsPlain-push [] c plain h = (h, tt)
@@ -41,18 +41,18 @@ pub TakesAt-other : (text : List ℕ) (wanted k : ℕ) → wanted ≢ question �
 TakesAt-other text wanted k other h = found (slice_get text k) wanted other h
 
 -- one character of the segment more
-pub Agrees-open : (text segment : List ℕ) (i d k : ℕ) → i < length segment → Agrees text (drop i segment) k → TakesAt text (get_or segment i d) k × Agrees text (drop (i + 1) segment) (k + 1)
-Agrees-open text segment i d k h agrees = rw (drop_more segment i d h) at agrees
+pub FitsAt-open : (text segment : List ℕ) (i d k : ℕ) → i < length segment → FitsAt text (drop i segment) k → TakesAt text (get_or segment i d) k × FitsAt text (drop (i + 1) segment) (k + 1)
+FitsAt-open text segment i d k h agrees = rw (drop_more segment i d h) at agrees
 
-pub Agrees-close : (text segment : List ℕ) (i d k : ℕ) → i < length segment → TakesAt text (get_or segment i d) k → Agrees text (drop (i + 1) segment) (k + 1) → Agrees text (drop i segment) k
-Agrees-close text segment i d k h here rest = rw (drop_more segment i d h) (here, rest)
+pub FitsAt-close : (text segment : List ℕ) (i d k : ℕ) → i < length segment → TakesAt text (get_or segment i d) k → FitsAt text (drop (i + 1) segment) (k + 1) → FitsAt text (drop i segment) k
+FitsAt-close text segment i d k h here rest = rw (drop_more segment i d h) (here, rest)
 
-pub Agrees-step : (text segment : List ℕ) (i d place : ℕ) (All : Type 0) → i < length segment → All ↔ Agrees text (drop i segment) (place + i) → TakesAt text (get_or segment i d) (place + i) → All ↔ Agrees text (drop (i + 1) segment) (place + (i + 1))
-Agrees-step text segment i d place All h same here =
+pub FitsAt-step : (text segment : List ℕ) (i d place : ℕ) (All : Type 0) → i < length segment → All ↔ FitsAt text (drop i segment) (place + i) → TakesAt text (get_or segment i d) (place + i) → All ↔ FitsAt text (drop (i + 1) segment) (place + (i + 1))
+FitsAt-step text segment i d place All h same here =
     let e : place + (i + 1) ≡ place + i + 1 = omega arith in
     rw e (
-      λ all. (Agrees-open text segment i d (place + i) h (same.0 all)).1,
-      λ rest. same.1 (Agrees-close text segment i d (place + i) h here rest),
+      λ all. (FitsAt-open text segment i d (place + i) h (same.0 all)).1,
+      λ rest. same.1 (FitsAt-close text segment i d (place + i) h here rest),
     )
 
 pub other_than_star : (c : ℕ) → c ≢ 42 → c == star ≡ false

@@ -19,9 +19,9 @@ TakesFirst [] here = Unit {0}
 TakesFirst (wanted ∷ segment) here = MatchOption here ⊥ (λ c. IsTrue (takes wanted c))
 
 -- The segment takes the characters from a place on.
-abbrev pub Agrees : List ℕ → List ℕ → ℕ → Type 0
-Agrees text [] k = Unit {0}
-Agrees text (wanted ∷ segment) k = TakesAt text wanted k × Agrees text segment (k + 1)
+abbrev pub FitsAt : List ℕ → List ℕ → ℕ → Type 0
+FitsAt text [] k = Unit {0}
+FitsAt text (wanted ∷ segment) k = TakesAt text wanted k × FitsAt text segment (k + 1)
 
 -- No character is a star.
 abbrev pub IsPlain : List ℕ → Type 0
@@ -48,7 +48,7 @@ ends_at Word text k = is_outside (slice_get text k)
 -- The segment agrees with the text at a place.
 pub record IsPlace (text segment : List ℕ) (k : ℕ) : Type 0 where
   pub in_text : k + length segment ≤ length text
-  pub agrees : Agrees text segment k
+  pub agrees : FitsAt text segment k
 
 -- It does so, and a word ends behind it.
 pub record IsEndPlace (text segment : List ℕ) (k : ℕ) : Type 0 where

@@ -1,5 +1,5 @@
+pub mod FoldedPattern
 pub mod Glob
 pub mod Leads
-pub mod Reading
 pub mod Search
 pub mod Words

@@ -2,7 +2,7 @@ ghost use Rattle.std.specs.Prelude.{◌≡◌, ◌+◌, ◌*◌, ◌≤◌, ◌�
 ghost use Rattle.mx_json.specs.Gives.{Gives};
 ghost use Rattle.mx_json.specs.Folded.{RisesAtMost};
 ghost use Rattle.mx_glob.specs.Glob.{Matches};
-ghost use Rattle.mx_glob.specs.Reading.{reading};
+ghost use Rattle.mx_glob.specs.FoldedPattern.{folded_pattern};
 ghost use Rattle.mx_glob.specs.Words.{WordMatches};
 
 use crate::error::GlobError;
@@ -49,7 +49,7 @@ impl Glob {
     ///
     /// `PatternTooLong` exactly where the pattern has more than 1,024 bytes, and `OutOfMemory`.
     pub fn read(alloc: Global, pattern: &str) -> Result<Glob, GlobError>
-        ensures { Gives GlobError.OutOfMemory result (reading pattern.now) }
+        ensures { Gives GlobError.OutOfMemory result (folded_pattern pattern.now) }
     {
         if pattern.len() > MOST_BYTES {
             return Err(GlobError::PatternTooLong);

@@ -1,6 +1,6 @@
 ghost use Rattle.std.specs.Prelude.{◌≡◌, ℕ, ◌+◌, ◌-◌, ◌*◌, ◌^◌, ◌<◌, ◌≤◌, ◌↔◌, length, IsTrue};
 ghost use Rattle.mx_json.specs.Folded.{RisesAtMost};
-ghost use Rattle.mx_glob.specs.Leads.{TakesAt, Agrees, IsPlace, IsFirstFrom, tried};
+ghost use Rattle.mx_glob.specs.Leads.{TakesAt, FitsAt, IsPlace, IsFirstFrom, tried};
 
 use mx_json::{Folded, Meter};
 
@@ -17,7 +17,7 @@ fn takes_at(wanted: char, value: &Folded, place: usize, meter: &mut Meter) -> bo
 pub(crate) fn agrees(segment: &[char], value: &Folded, place: usize, meter: &mut Meter) -> bool
     requires in_text { place + length segment.now ≤ length value.now }
     requires fits { place + length segment.now < 2 ^ 64 }
-    ensures value { IsTrue result ↔ Agrees value.now segment.now place }
+    ensures value { IsTrue result ↔ FitsAt value.now segment.now place }
     ensures reads { RisesAtMost (length segment.now) meter.old meter.new }
 {
     for (k, wanted) in segment.iter().enumerate() {

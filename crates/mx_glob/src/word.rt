@@ -1,6 +1,6 @@
 ghost use Rattle.std.specs.Prelude.{◌≡◌, ℕ, ◌+◌, ◌-◌, ◌*◌, ◌^◌, ◌<◌, ◌≤◌, ◌↔◌, length, drop, min, slice_get, IsTrue};
 ghost use Rattle.mx_json.specs.Folded.{RisesAtMost};
-ghost use Rattle.mx_glob.specs.Leads.{Agrees, TakesFirst, IsWordPlace, IsFirstFrom, tried};
+ghost use Rattle.mx_glob.specs.Leads.{FitsAt, TakesFirst, IsWordPlace, IsFirstFrom, tried};
 ghost use Rattle.mx_glob.specs.Words.{is_outside, character_before, HasWord};
 
 use crate::place::agrees;
@@ -89,7 +89,7 @@ fn takes_first(segment: &[char], here: Option<char>) -> bool
 fn agrees_after(segment: &[char], value: &Folded, place: usize, meter: &mut Meter) -> bool
     requires in_text { place + length segment.now ≤ length value.now }
     requires fits { place + length segment.now < 2 ^ 64 }
-    ensures value { IsTrue result ↔ Agrees value.now (drop 1 segment.now) (place + 1) }
+    ensures value { IsTrue result ↔ FitsAt value.now (drop 1 segment.now) (place + 1) }
     ensures reads { RisesAtMost (length segment.now - 1) meter.old meter.new }
 {
     match segment {

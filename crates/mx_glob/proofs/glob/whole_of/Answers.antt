@@ -1,6 +1,6 @@
 use Rattle.std.proofs.Common.{ℕ, List, ◌∙◌, IsTrue, arith, subst, sym}
 use Rattle.mx_glob.specs.Glob.{Matches}
-use Rattle.mx_glob.proofs.SegmentLemmas.{Agrees-in_text}
+use Rattle.mx_glob.proofs.SegmentLemmas.{FitsAt-in_text}
 use Rattle.mx_glob.proofs.GlobLemmas.{Matches-plain, Matches-starred}
 use Rattle.mx_glob.proofs.glob.whole_of.Goals as goal
 
@@ -22,7 +22,7 @@ returns-then-first-len-clause-matches c =
     let same = Matches-starred c.args.value.now c.in-Some.first.now c.in-Some.rest.now parts.0 in (
       λ never. cc,
       λ matched.
-          let room = Agrees-in_text c.args.value.now c.in-Some.first.now 0 (omega arith) (same.0 (subst family parts.1 matched)).0 in
+          let room = FitsAt-in_text c.args.value.now c.in-Some.first.now 0 (omega arith) (same.0 (subst family parts.1 matched)).0 in
           absurd (omega arith),
     )
 
