@@ -148,6 +148,14 @@ IfSome-same P old None same each = tt
 IfSome-same P None (Some after) same each = absurd same
 IfSome-same P (Some before) (Some after) same each = each after (ap Some (sym same))
 
+-- What is told of what a disk gives after.
+pub IfSome-told : (P : List ℕ → Type 0) (old new : Option (List ℕ)) → WhereTold old new (λ before after. P after)
+    → IfSome new P
+IfSome-told P None None told = tt
+IfSome-told P None (Some after) told = absurd told
+IfSome-told P (Some before) None told = tt
+IfSome-told P (Some before) (Some after) told = told
+
 -- Behind a record that was written stands a closed gate.
 closed_behind : (old new payload : List ℕ) (offset : ℕ) (piece : List ℕ) → offset + 1 ≤ length old
     → piece ≡ staged_bytes payload → new ≡ put_at offset (open_gate ∷ []) (put_at (offset + 1) piece old)

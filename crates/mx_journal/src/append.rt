@@ -1,7 +1,7 @@
 //! Adding one record.
 ghost use Rattle.std.specs.Prelude.{◌≡◌, ◌+◌, ◌<◌, ◌≤◌, ◌^◌, List, [], ◌∷◌, ◌++◌, ℕ, length, IsOk, OnOk, IfSome};
 ghost use Rattle.mx_outside.specs.Budget.{CoversCalls, SpendsCalls};
-ghost use Rattle.mx_outside.specs.Disk.{LeavesOnly, CountsFaults};
+ghost use Rattle.mx_outside.specs.Disk.{Only, LeavesOnly, CountsFaults};
 ghost use Rattle.mx_journal.specs.Image.{IsPayload, StandsForEither};
 ghost use Rattle.mx_journal.specs.Journal.{HasClosedGate, RestsAt};
 ghost use Rattle.mx_journal.specs.Held.{staged_bytes};
@@ -30,6 +30,8 @@ pub(crate) fn append<D: Disk>(disk: &mut D, gate: u64, staged: &[u8]) -> Result<
     ensures gate_closed { (payload : List ℕ) → staged.now ≡ staged_bytes payload
         → OnOk result (IfSome (D.seen disk.new)
         (λ content. HasClosedGate content (gate + length staged.now))) }
+    ensures settled { OnOk result (IfSome (D.seen disk.new)
+        (λ content. Only content (D.may_leave disk.new))) }
     ensures remains { IfSome (D.seen disk.old) (D.may_leave disk.old)
         → IfSome (D.seen disk.new) (D.may_leave disk.new) }
     ensures bounded { OnOk result (gate + 1 + length staged.now < 2 ^ 63) }

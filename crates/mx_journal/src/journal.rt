@@ -249,7 +249,9 @@ impl<D: Disk> Journal<D> {
         requires staged { 0 < length self.old.staged }
         requires all_read { self.old.phase ≢ Phase.Reading }
 
-        // At Ok the new payload is on the disk, and a crash leaves nothing else.
+        // At Ok the new payload is on the disk, and a crash leaves what a read gives.
+        ensures settled { OnOk result (IfSome (D.seen self.new.disk)
+            (λ content. Only content (D.may_leave self.new.disk))) }
         ensures acknowledged { (payloads : List (List ℕ))
             → Rests D.seen D.may_leave self.old payloads
             → OnOk result (Rests D.seen D.may_leave self.new (payloads ++ self.old.staged ∷ [])) }

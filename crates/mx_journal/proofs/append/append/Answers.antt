@@ -1,8 +1,9 @@
 -- From write to write, what a crash may leave stands for the old payloads or the new ones.
-use Rattle.std.proofs.Common.{[], ◌∷◌, ◌++◌, inl, inr, length}
+use Rattle.std.proofs.Common.{ℕ, List, [], ◌∷◌, ◌++◌, inl, inr, length}
+use Rattle.mx_outside.specs.Disk.{Only}
 use Rattle.mx_journal.specs.Image.{StandsForEither}
 use Rattle.mx_journal.proofs.Moments.{LeavesOnly-weaker, LeavesOnly-then}
-use Rattle.mx_journal.proofs.Steps.{first_leaves, first_writes, second_leaves, second_writes, closed_after}
+use Rattle.mx_journal.proofs.Steps.{IfSome-told, first_leaves, first_writes, second_leaves, second_writes, closed_after}
 use Rattle.mx_journal.proofs.append.append.Goals as goal
 
 pub returns-in_err-write_through-clause-any_moment : goal.returns-in_err-write_through-clause-any_moment
@@ -47,3 +48,9 @@ returns-clause-gate_closed g c = λ payload is.
     closed_after (g.D.Disk.seen c.args.disk.now) (g.D.Disk.seen c.write_through.new.disk)
     (g.D.Disk.seen c.write_through-2.new.disk) payload c.args.gate c.args.staged.now c.requires.inside is
     c.in_ok-write_through.ensures.written c.in_ok-write_through-2.ensures.written
+
+pub returns-clause-settled : goal.returns-clause-settled
+returns-clause-settled g c =
+    let only = λ (content : List ℕ). Only content (g.D.Disk.may_leave c.write_through-2.new.disk) in
+    IfSome-told only (g.D.Disk.seen c.write_through.new.disk) (g.D.Disk.seen c.write_through-2.new.disk)
+    c.in_ok-write_through-2.ensures.durable
