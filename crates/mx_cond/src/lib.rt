@@ -19,6 +19,3 @@ pub use error::ConditionError;
 pub use facts::Facts;
 pub use power::PowerTable;
 pub use wanted::body_of;
-
-#[cfg(test)]
-mod tests;

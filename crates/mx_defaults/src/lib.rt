@@ -11,6 +11,3 @@ mod table;
 mod values;
 
 pub use rules::predefined;
-
-#[cfg(test)]
-mod tests;

@@ -12,6 +12,3 @@ mod relation;
 pub use error::{EventError, EventField};
 pub use event::Event;
 pub use relation::Relation;
-
-#[cfg(test)]
-mod tests;

@@ -19,6 +19,3 @@ pub use error::GlobError;
 pub use glob::Glob;
 pub use scratch::Scratch;
 pub use word::word_literal;
-
-#[cfg(test)]
-mod tests;

@@ -10,9 +10,6 @@ use json::Writer;
 use std::alloc::{AllocError, Global};
 use std::mem;
 
-#[cfg(test)]
-mod tests;
-
 impl Json {
     /// Appends the canonical text of a valid value (the Matrix specification's appendix "Canonical
     /// JSON"): UTF-8 with no white space, the keys of each object by code point, and no escape

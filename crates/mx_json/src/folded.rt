@@ -84,28 +84,3 @@ fn characters_of(alloc: Global, text: &str) -> Result<Vec<char>, AllocError>
 {
     text.chars().collect(alloc)
 }
-
-#[cfg(test)]
-mod tests {
-    use super::*;
-    use std::test::Fail;
-
-    #[test]
-    fn folds_and_counts(rt: HostRuntime) -> Result<(), Fail> {
-        let folded = Folded::of(rt.alloc(), "Straße İ")?;
-        let mut meter = Meter::new();
-        let mut read = String::new(rt.alloc());
-        for k in 0..folded.len() {
-            read.push(folded.at(k, &mut meter).ok_or("a character")?)?;
-        }
-        assert_eq!(rt; read.as_str(), "strasse i\u{307}");
-        assert_eq!(rt; folded.at(folded.len(), &mut meter), None);
-        assert_eq!(rt; meter.count(), 11);
-        assert!(rt; !folded.is_empty());
-        assert_eq!(rt;
-            format!(in rt.alloc(); "{folded:?}")?.as_str(),
-            "Folded { len: 10 }"
-        );
-        Ok(())
-    }
-}

@@ -33,6 +33,3 @@ pub use room_id::{RoomId, is_room_id};
 pub use text::JsonText;
 pub use user_id::{UserId, is_user_id};
 pub use value::{Json, JsonList, JsonObject};
-
-#[cfg(test)]
-mod tests;

@@ -11,9 +11,6 @@ use sqlite_items::Items;
 use std::alloc::Global;
 use std::marker::Model;
 
-#[cfg(test)]
-mod tests;
-
 /// A property path: the keys that lead from a value to one inside it.
 #[derive(Debug, Drop)]
 pub struct Path {

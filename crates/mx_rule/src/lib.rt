@@ -28,6 +28,3 @@ pub use pattern::Pattern;
 pub use rule::Rule;
 pub use ruleset::Ruleset;
 pub use verdict::Verdict;
-
-#[cfg(test)]
-mod tests;
