@@ -9,7 +9,7 @@ use Rattle.mx_json.specs.declared.value.JsonList.{JsonList}
 use Rattle.mx_json.specs.declared.value.JsonObject.{JsonObject}
 use Rattle.mx_json.specs.Json.{member, text_at}
 use Rattle.mx_json.specs.Path.{segments}
-use Rattle.mx_glob.specs.Reading.{reading}
+use Rattle.mx_glob.specs.FoldedPattern.{folded_pattern}
 use Rattle.mx_cond.specs.declared.error.ConditionError.{ConditionError}
 use Rattle.mx_cond.specs.declared.error.ConditionError.TheVariants.{BadCondition}
 use Rattle.mx_cond.specs.declared.plain.Plain.{Plain}
@@ -26,7 +26,7 @@ path_in json = option_map segments (text_at (codes "key") json)
 
 -- the folded characters of `pattern`, where it has at most 1,024 bytes
 abbrev pub pattern_in : Json → Option (List ℕ)
-pattern_in json = option_and_then (λ pattern. result_ok (reading pattern)) (text_at (codes "pattern") json)
+pattern_in json = option_and_then (λ pattern. result_ok (folded_pattern pattern)) (text_at (codes "pattern") json)
 
 -- a text, a whole number, a truth value or null is plain; a list and an object aren't
 abbrev pub top_plain : Json-F Json JsonList JsonObject → Option Plain

@@ -9,7 +9,7 @@ use Rattle.mx_json.specs.Folded.{folded}
 use Rattle.mx_json.specs.Json.{is_valid, member, member_in, text_at, text_of}
 use Rattle.mx_json.proofs.ObjectLemmas.{is_fit, is_fit-Text, is_fit-Truth, is_utf8-ascii, is_valid-ascii, is_valid-Object}
 use Rattle.mx_json.specs.Path.{segments}
-use Rattle.mx_glob.specs.Reading.{reading}
+use Rattle.mx_glob.specs.FoldedPattern.{folded_pattern}
 use Rattle.mx_glob.specs.declared.error.GlobError.TheVariants.{PatternTooLong}
 use Rattle.mx_cond.specs.Condition.{is_condition, plain_of, wanted_by, wanted_of_kind, with_both}
 use Rattle.mx_cond.specs.MemberCount.{count_asked}
@@ -146,9 +146,9 @@ unfolding wanted_of_kind
 event_match-is key pattern is =
     let pairs : List (List ℕ × Json) = (codes "key", Text key) ∷ (codes "kind", Text (codes "event_match")) ∷ (codes "pattern", Text pattern) ∷ [] in
     let P : Bool → Type 0 = λ is_long. result_ok (if is_long then Err PatternTooLong else Ok (folded pattern)) ≡ Some (folded pattern) in
-    let read : result_ok (reading pattern) ≡ Some (folded pattern) = subst P (sym (short pattern is)) refl in
+    let read : result_ok (folded_pattern pattern) ≡ Some (folded pattern) = subst P (sym (short pattern is)) refl in
     let path = ap (option_map segments) (text_at-is (codes "key") pairs key refl) in
-    let glob = ap (option_and_then (λ text. result_ok (reading text))) (text_at-is (codes "pattern") pairs pattern refl) ∙ read in
+    let glob = ap (option_and_then (λ text. result_ok (folded_pattern text))) (text_at-is (codes "pattern") pairs pattern refl) ∙ read in
     ap is_some (wanted_by-kind pairs (codes "event_match") refl ∙ ap₂ (with_both EventMatch) path glob)
 
 property_is-is : (key : List ℕ) (value : Json) (plain : Plain) → plain_of value ≡ Some plain → is_condition (event_property_is key value) ≡ true

@@ -19,13 +19,13 @@ pub struct Pattern {
 
 impl Model for Pattern {
     ghost use Rattle.std.specs.Prelude.{◌≡◌, ℕ, List, Ok};
-    ghost use Rattle.mx_glob.specs.Reading.{reading};
+    ghost use Rattle.mx_glob.specs.FoldedPattern.{folded_pattern};
 
     ghost Value = { List ℕ };
 
     ghost view = { λ pattern. pattern.text };
 
-    ghost invariant = { λ pattern. reading pattern.text ≡ Ok pattern.glob };
+    ghost invariant = { λ pattern. folded_pattern pattern.text ≡ Ok pattern.glob };
 }
 
 impl Pattern {
