@@ -1,5 +1,5 @@
 -- How a run of calls of a disk goes on.
-use Rattle.std.proofs.Common.{◌≡◌, ◌∙◌, inl, inr, ⊎_elim, ℕ, ◌≤◌, List, Option, IfSome, arith}
+use Rattle.std.proofs.Common.{◌≡◌, ◌∙◌, inl, inr, ⊎_elim, ℕ, List, Option, IfSome, arith}
 use Rattle.mx_outside.specs.Told.{WhereTold}
 use Rattle.mx_outside.specs.Disk.{Torn, Follows, SameImages, Elapses, LeavesOnly}
 use Rattle.mx_outside.proofs.Told.{WhereTold-then}
