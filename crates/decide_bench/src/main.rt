@@ -27,7 +27,7 @@ struct Owner {
 }
 
 /// How many decisions were made by rules of which kind.
-#[derive(Drop)]
+#[derive(Clone, Copy)]
 struct Tally {
     override_: u32,
     content: u32,
@@ -37,17 +37,8 @@ struct Tally {
 }
 
 fn main(rt: HostRuntime) -> Result<()> {
-    let alloc = rt.alloc();
-    let owners = owners(alloc)?;
-    let events = events(alloc)?;
-    let powers = PowerTable::of(alloc, None)?;
-    let mut scratch = Scratch::new(alloc)?;
-    for line in rt.lines(alloc) {
-        let rounds = line?.as_str().parse::<u32>().context("a number of rounds")?;
-        let mut tally = Tally::new();
-        for _ in 0..rounds {
-            tally = round(alloc, &owners, &events, &powers, &mut scratch)?;
-        }
+    for line in rt.lines(rt.alloc()) {
+        let tally = tally_of(rt.alloc(), line?.as_str())?;
         println!(rt;
             "override {}, content {}, underride {}, other {}, none {}",
             tally.override_, tally.content, tally.underride, tally.other, tally.none
@@ -56,28 +47,81 @@ fn main(rt: HostRuntime) -> Result<()> {
     Ok(())
 }
 
+/// The tally of the last of so many rounds.
+fn tally_of(alloc: Global, rounds: &str) -> Result<Tally> {
+    let rounds = rounds.parse::<u32>().context("a number of rounds")?;
+    let owners = owners(alloc)?;
+    judge_for(alloc, rounds, &owners)
+}
+
 fn owners(alloc: Global) -> Result<Vec<Owner>> {
     let mut owners = Vec::new(alloc);
     for number in 0..USERS {
-        let id = format!(in alloc; "@u{number}:{SERVER}")?;
-        let user = UserId::read(alloc, id.as_str())?;
-        user.localpart_on(SERVER).context("a local user")?;
-        let rules = predefined(alloc, &user, SERVER)?;
-        let name = format!(in alloc; "User {number}")?;
-        owners.push(Owner { rules, name })?;
+        owners.push(owner_of(alloc, number)?)?;
     }
     Ok(owners)
+}
+
+fn owner_of(alloc: Global, number: u32) -> Result<Owner> {
+    let rules = rules_of(alloc, number)?;
+    let name = format!(in alloc; "User {number}")?;
+    Ok(Owner { rules, name })
+}
+
+fn rules_of(alloc: Global, number: u32) -> Result<Ruleset> {
+    let id = format!(in alloc; "@u{number}:{SERVER}")?;
+    rules_for(alloc, id.as_str())
+}
+
+fn rules_for(alloc: Global, id: &str) -> Result<Ruleset> {
+    let user = UserId::read(alloc, id)?;
+    user.localpart_on(SERVER).context("a local user")?;
+    Ok(predefined(alloc, &user, SERVER)?)
 }
 
 fn events(alloc: Global) -> Result<Vec<Event>> {
     let mut events = Vec::new(alloc);
     for content in MESSAGES {
-        let text = format!(in alloc;
-            r#"{{"content":{content},"event_id":"$1","room_id":"!r:example.org","sender":"@a:example.org","type":"m.room.message"}}"#
-        )?;
-        events.push(Event::from_json(alloc, Json::from_text(alloc, text.as_bytes(), 100)?)?)?;
+        events.push(event(alloc, content)?)?;
     }
     Ok(events)
+}
+
+fn event(alloc: Global, content: &str) -> Result<Event> {
+    let text = format!(in alloc;
+        r#"{{"content":{content},"event_id":"$1","room_id":"!r:example.org","sender":"@a:example.org","type":"m.room.message"}}"#
+    )?;
+    read_event(alloc, text.as_str())
+}
+
+fn read_event(alloc: Global, text: &str) -> Result<Event> {
+    let json = Json::from_text(alloc, text.as_bytes(), 100)?;
+    Ok(Event::from_json(alloc, json)?)
+}
+
+fn judge_for(alloc: Global, rounds: u32, owners: &[Owner]) -> Result<Tally> {
+    let events = events(alloc)?;
+    judge(alloc, rounds, owners, &events)
+}
+
+fn judge(alloc: Global, rounds: u32, owners: &[Owner], events: &[Event]) -> Result<Tally> {
+    let powers = PowerTable::of(alloc, None)?;
+    judge_in(alloc, rounds, owners, events, &powers)
+}
+
+fn judge_in(
+    alloc: Global,
+    rounds: u32,
+    owners: &[Owner],
+    events: &[Event],
+    powers: &PowerTable,
+) -> Result<Tally> {
+    let mut scratch = Scratch::new(alloc)?;
+    let mut tally = Tally::new();
+    for _ in 0..rounds {
+        tally = round(alloc, owners, events, powers, &mut scratch)?;
+    }
+    Ok(tally)
 }
 
 /// Judges each event for each owner.
@@ -87,7 +131,7 @@ fn round(
     events: &[Event],
     powers: &PowerTable,
     scratch: &mut Scratch,
-) -> Result<Tally> {
+) -> Result<Tally, OutOfMemory> {
     let mut tally = Tally::new();
     for event in events {
         tally = judge_all(alloc, owners, event, powers, scratch, tally)?;
@@ -103,7 +147,7 @@ fn judge_all(
     powers: &PowerTable,
     scratch: &mut Scratch,
     tally: Tally,
-) -> Result<Tally> {
+) -> Result<Tally, OutOfMemory> {
     let mut tally = tally;
     for owner in owners {
         let name = owner.name.as_str();
