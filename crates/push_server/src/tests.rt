@@ -1,26 +1,50 @@
+mod fixtures;
 mod refusals;
 mod serving;
 mod watching;
 
 use crate::command_line::server_of;
 use crate::writing::write_all;
+use fixtures::words;
 use mx_outside::VecSink;
-use std::test::Fail;
+use std::alloc::Global;
+use std::process::Abort;
 
 #[test]
-fn a_text_is_written_whole(rt: HostRuntime) -> Result<(), Fail> {
-    let alloc = rt.alloc();
-    let mut sink = VecSink::new(alloc, 8, 2)?;
-    assert!(rt; write_all(&mut sink, b"abc").is_ok());
-    assert!(rt; write_all(&mut sink, b"").is_ok());
-    assert!(rt; write_all(&mut sink, b"de").is_ok());
-    assert_eq!(rt; sink.taken(), b"abcde".as_slice());
-    Ok(())
+fn a_text_is_written_whole(rt: HostRuntime) {
+    assert!(rt; are_written_whole(&rt, rt.alloc(), [b"abc", b"", b"de"], b"abcde"));
+}
+
+/// Whether these texts come out as these bytes, each in one call at the most.
+fn are_written_whole(rt: &impl Abort, alloc: Global, texts: [&[u8]; 3], bytes: &[u8]) -> bool {
+    let mut sink = VecSink::new(alloc, 8, 2).expect(rt, "a sink");
+    for text in texts {
+        if write_all(&mut sink, text).is_err() {
+            return false;
+        }
+    }
+    sink.taken() == bytes
+}
+
+#[test]
+fn words_in_each_spelling(rt: HostRuntime) {
+    for (spelling, server) in SPELLINGS {
+        assert!(rt;
+            gives_server(&rt, rt.alloc(), spelling, server),
+            "{spelling}"
+        );
+    }
+}
+
+/// Whether the words give this name, or none.
+fn gives_server(rt: &impl Abort, alloc: Global, spelling: &str, server: Option<&str>) -> bool {
+    let words = words(rt, alloc, spelling);
+    server_of(&words) == server
 }
 
 /// Words of the command line, with a blank between each two, and the server's name that they give.
 #[rattlefmt::skip]
-const SPELLINGS: [(&str, Option<&str>); 26] = [
+static SPELLINGS: [(&str, Option<&str>); 26] = [
     ("run --server example.org", Some("example.org")),
     ("run --server=example.org", Some("example.org")),
     ("run --server example.org --", Some("example.org")),
@@ -52,22 +76,13 @@ const SPELLINGS: [(&str, Option<&str>); 26] = [
 ];
 
 #[test]
-fn words_in_each_spelling(rt: HostRuntime) -> Result<(), Fail> {
-    let alloc = rt.alloc();
-    for (spelling, server) in SPELLINGS {
-        let mut words = Vec::new(alloc);
-        for word in spelling.split(' ') {
-            words.push(String::from_str(alloc, word)?)?;
-        }
-        assert_eq!(rt; server_of(&words), server, "{spelling}");
-    }
+fn a_name_has_at_most_200_bytes(rt: HostRuntime) {
     for (length, taken) in [(200, true), (201, false)] {
-        let name = "a".repeat(alloc, length)?;
-        let words = [
-            String::from_str(alloc, "run")?,
-            format!(in alloc; "--server={name}")?,
-        ];
-        assert_eq!(rt; server_of(&words).is_some(), taken, "{length}");
+        assert!(rt; takes_name_of(&rt, rt.alloc(), length) == taken, "{length}");
     }
-    Ok(())
+}
+
+fn takes_name_of(rt: &impl Abort, alloc: Global, length: usize) -> bool {
+    let spelling = format!(in alloc; "run --server={:a>length$}", "").expect(rt, "a spelling");
+    !gives_server(rt, alloc, spelling.as_str(), None)
 }

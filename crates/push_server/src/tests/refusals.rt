@@ -1,15 +1,11 @@
 //! Lines that are refused, each beside the earlier refusals that could hide it, and lines at each bound.
 
-use super::serving::{CAPACITY, Script, counts, event, message, padded, source_of, words};
-use crate::serve::serve;
-use crate::status::Status;
-use mx_json::OutOfMemory;
-use mx_outside::VecSink;
-use std::alloc::{AllocError, Global};
-use std::test::Fail;
+use super::fixtures::{Script, is_served};
+use std::alloc::Global;
+use std::process::Abort;
 
 /// No JSON, though a number isn't whole or a field is wrong.
-const BAD_LINES: [&str; 6] = [
+static BAD_LINES: [&str; 6] = [
     "",
     "nul",
     "1e400",
@@ -20,7 +16,7 @@ const BAD_LINES: [&str; 6] = [
 
 /// A number that isn't whole, in lines that would be refused, or answered, without it.
 #[rattlefmt::skip]
-const NOT_WHOLE: [&str; 8] = [
+static NOT_WHOLE: [&str; 8] = [
     "[1.5]",
     r#"{"cmd":"stat","n":1e2}"#,
     r#"{"cmd":"event","event":{"n":1.0}}"#,
@@ -32,7 +28,7 @@ const NOT_WHOLE: [&str; 8] = [
 ];
 
 /// No word of a command.
-const NO_COMMAND: [&str; 7] = [
+static NO_COMMAND: [&str; 7] = [
     "[1]",
     "null",
     "{}",
@@ -44,7 +40,7 @@ const NO_COMMAND: [&str; 7] = [
 
 /// The first wrong field, where each later one is wrong too, and the event is known or the user isn't local.
 #[rattlefmt::skip]
-const WRONG_FIELDS: [(&str, &str); 13] = [
+static WRONG_FIELDS: [(&str, &str); 13] = [
     (r#"{"cmd":"event"}"#, "event.event_id"),
     (r#"{"cmd":"event","event":[]}"#, "event.event_id"),
     (r#"{"cmd":"event","event":{"event_id":"known","room_id":"r","sender":"a","type":1,"content":1}}"#, "event.event_id"),
@@ -61,7 +57,7 @@ const WRONG_FIELDS: [(&str, &str); 13] = [
 ];
 
 /// Commands that aren't built, whatever else they say.
-const NOT_BUILT: [&str; 12] = [
+static NOT_BUILT: [&str; 12] = [
     r#"{"cmd":"rule_put","user":1}"#,
     r#"{"cmd":"rule_delete"}"#,
     r#"{"cmd":"rule_enable"}"#,
@@ -77,7 +73,7 @@ const NOT_BUILT: [&str; 12] = [
 ];
 
 /// Questions of users who aren't local.
-const NOT_LOCAL: [&str; 7] = [
+static NOT_LOCAL: [&str; 7] = [
     r#"{"cmd":"counts","room_id":"!r","user":"@z:other.org"}"#,
     r#"{"cmd":"counts","room_id":"!r","threads":false,"user":"@z:other.org"}"#,
     r#"{"cmd":"counts","room_id":"!r","user":"@:example.org"}"#,
@@ -92,7 +88,7 @@ const KNOWN: &str =
     r#"{"cmd":"event","event":{"event_id":"$known","room_id":"!s","sender":"@c:d","type":"u","content":{"x":1}}}"#;
 
 /// A line of each refusal, which is too long with enough blanks.
-const HIDDEN: [&str; 6] = [
+static HIDDEN: [&str; 6] = [
     "{",
     "[1.5]",
     "[1]",
@@ -101,124 +97,152 @@ const HIDDEN: [&str; 6] = [
     KNOWN,
 ];
 
-impl Script {
-    /// Says each of these lines, which have one reply.
-    fn say_each(&mut self, lines: &[&str], reply: &str) -> Result<(), AllocError> {
-        for line in lines {
-            self.say(line.as_bytes(), reply)?;
-        }
-        Ok(())
-    }
-}
+/// An event that is known afterwards, and notifies.
+const FIRST: &str =
+    r#"{"cmd":"event","event":{"content":{},"event_id":"$known","room_id":"!r:example.org","sender":"@a:example.org","type":"m.room.message"}}"#;
 
-/// Says the lines of a script to the server, and compares all replies.
-fn runs_as_said(alloc: Global, script: &Script) -> Result<bool, OutOfMemory> {
-    let mut source = source_of(alloc, &script.input, 0)?;
-    let mut sink = VecSink::new(alloc, CAPACITY, CAPACITY)?;
-    let status = serve(alloc, &words(alloc)?, &mut source, &mut sink);
-    Ok(status == Status::Done && sink.taken() == script.output.as_slice())
-}
-
-#[test]
-fn the_first_refusal_that_applies(rt: HostRuntime) -> Result<(), Fail> {
-    let alloc = rt.alloc();
+/// Each refused line, between an event and what shows that nothing else changed anything.
+fn refused_lines(rt: &impl Abort, alloc: Global) -> Script {
     let mut script = Script::new(alloc);
-    script.say(message(alloc, "$known", "{}")?.as_bytes(), "= {\"ok\":1}")?;
+    script.say(rt, FIRST.as_bytes(), r#"= {"ok":1}"#);
     for line in HIDDEN {
-        script.say(
-            &padded(alloc, line, 131_073)?,
-            "= {\"error\":\"LineTooLong\"}",
-        )?;
+        script.say_padded(rt, alloc, line, 131_073, r#"= {"error":"LineTooLong"}"#);
     }
-    script.say_each(&BAD_LINES, "= {\"error\":\"BadLine\"}")?;
-    script.say(b"{\"cmd\":\"\xff\"}", "= {\"error\":\"BadLine\"}")?;
-    script.say_each(&NOT_WHOLE, "= {\"error\":\"NotWhole\"}")?;
-    script.say_each(&NO_COMMAND, "= {\"error\":\"BadField\",\"field\":\"cmd\"}")?;
+    script.say_each(rt, &BAD_LINES, r#"= {"error":"BadLine"}"#);
+    script.say(rt, b"{\"cmd\":\"\xff\"}", r#"= {"error":"BadLine"}"#);
+    script.say_each(rt, &NOT_WHOLE, r#"= {"error":"NotWhole"}"#);
+    script.say_each(rt, &NO_COMMAND, r#"= {"error":"BadField","field":"cmd"}"#);
     for (line, field) in WRONG_FIELDS {
-        let reply = format!(in alloc; "= {{\"error\":\"BadField\",\"field\":\"{field}\"}}")?;
-        script.say(line.as_bytes(), reply.as_str())?;
+        say_wrong_field(rt, alloc, &mut script, line, field);
     }
-    script.say_each(&NOT_BUILT, "= {\"error\":\"NotBuilt\"}")?;
-    script.say_each(&NOT_LOCAL, "= {\"error\":\"NotLocal\"}")?;
+    script.say_each(rt, &NOT_BUILT, r#"= {"error":"NotBuilt"}"#);
+    script.say_each(rt, &NOT_LOCAL, r#"= {"error":"NotLocal"}"#);
     script.say(
+        rt,
         KNOWN.as_bytes(),
-        "= {\"error\":\"KnownEvent\",\"position\":1}",
-    )?;
-    // Nothing of this changed anything.
+        r#"= {"error":"KnownEvent","position":1}"#,
+    );
     script.say(
+        rt,
         br#"{"cmd":"counts","room_id":"!r:example.org","threads":false,"user":"@b:example.org"}"#,
-        "= {\"highlight_count\":0,\"notification_count\":1}",
-    )?;
-    assert!(rt; runs_as_said(alloc, &script)?);
-    Ok(())
+        r#"= {"highlight_count":0,"notification_count":1}"#,
+    );
+    script
 }
 
-/// A message whose content is nested so deep that the line is nested three levels deeper.
-fn nested(alloc: Global, id: &str, lists: usize) -> Result<String, AllocError> {
-    let (open, close) = ("[".repeat(alloc, lists)?, "]".repeat(alloc, lists)?);
-    message(
-        alloc,
-        id,
-        format!(in alloc; "{{\"x\":{open}{close}}}")?.as_str(),
-    )
-}
-
-/// Events at the bounds of what is accepted.
-fn accepted_lines(alloc: Global) -> Result<[String; 7], AllocError> {
-    let id = format!(in alloc; "${}", "i".repeat(alloc, 254)?)?;
-    let kind = "t".repeat(alloc, 255)?;
-    Ok([
-        nested(alloc, "$100", 97)?,
-        message(alloc, "$n1", "{\"n\":9007199254740991}")?,
-        message(alloc, "$n2", "{\"n\":-9007199254740991}")?,
-        message(alloc, id.as_str(), "{}")?,
-        event(alloc, "$t", "@a:", kind.as_str(), "{}")?,
-        // As a server hands an event out.
-        String::from_str(
-            alloc,
-            r#"{"cmd":"event","event":{"content":{"body":"hi","m.mentions":{},"msgtype":"m.text"},"event_id":"$143273582443PhrSn8Yp0wVcDkWuBtGXbA3mJqLzTHe","origin_server_ts":1432735824653,"room_id":"!r:example.org","sender":"@a:example.org","type":"m.room.message","unsigned":{"age":1234}}}"#,
-        )?,
-        // Two keys of one name: the last counts.
-        message(alloc, "$twice\",\"event_id\":\"$last", "{}")?,
-    ])
+fn say_wrong_field(rt: &impl Abort, alloc: Global, script: &mut Script, line: &str, field: &str) {
+    let reply = format!(in alloc; r#"= {{"error":"BadField","field":"{field}"}}"#).expect(
+        rt, field,
+    );
+    script.say(rt, line.as_bytes(), reply.as_str());
 }
 
 #[test]
-fn lines_at_their_bounds(rt: HostRuntime) -> Result<(), Fail> {
-    let alloc = rt.alloc();
+fn the_first_refusal_that_applies(rt: HostRuntime) {
+    assert!(rt; refuses_each(&rt, rt.alloc()));
+}
+
+fn refuses_each(rt: &impl Abort, alloc: Global) -> bool {
+    let script = refused_lines(rt, alloc);
+    is_served(rt, alloc, &script, 0)
+}
+
+/// A line, and what of it is as large as is said.
+#[derive(Clone, Copy)]
+enum Line {
+    /// A message whose content is nested so deep that the line is nested three levels deeper.
+    Nested(usize),
+    /// An event whose id has so many bytes after `$`.
+    Id(usize),
+    /// An event whose type has so many bytes.
+    Kind(usize),
+    /// A message with blanks behind it to so many bytes.
+    Long(usize),
+    /// This line.
+    Is(&'static str),
+}
+
+/// The text of a line.
+fn text_of(rt: &impl Abort, alloc: Global, line: Line) -> String {
+    match line {
+        Line::Nested(lists) => nested(rt, alloc, lists),
+        Line::Id(length) => long_id(rt, alloc, length),
+        Line::Kind(length) => long_kind(rt, alloc, length),
+        Line::Long(length) => long(rt, alloc, length),
+        Line::Is(text) => String::from_str(alloc, text).expect(rt, text),
+    }
+}
+
+fn nested(rt: &impl Abort, alloc: Global, lists: usize) -> String {
+    format!(in alloc;
+        r#"{{"cmd":"event","event":{{"content":{{"x":{:[>lists$}{:]>lists$}}},"event_id":"${lists}","room_id":"!r:example.org","sender":"@a:example.org","type":"m.room.message"}}}}"#,
+        "", ""
+    )
+    .expect(rt, "lists")
+}
+
+fn long_id(rt: &impl Abort, alloc: Global, length: usize) -> String {
+    format!(in alloc;
+        r#"{{"cmd":"event","event":{{"content":{{}},"event_id":"${:i>length$}","room_id":"!r:example.org","sender":"@a:example.org","type":"m.room.message"}}}}"#,
+        ""
+    )
+    .expect(rt, "an id")
+}
+
+fn long_kind(rt: &impl Abort, alloc: Global, length: usize) -> String {
+    format!(in alloc;
+        r#"{{"cmd":"event","event":{{"content":{{}},"event_id":"$t","room_id":"!r:example.org","sender":"@a:","type":"{:t>length$}"}}}}"#,
+        ""
+    )
+    .expect(rt, "a type")
+}
+
+fn long(rt: &impl Abort, alloc: Global, length: usize) -> String {
+    let message =
+        r#"{"cmd":"event","event":{"content":{},"event_id":"$long","room_id":"!r:example.org","sender":"@a:example.org","type":"m.room.message"}}"#;
+    format!(in alloc; "{message:length$}").expect(rt, message)
+}
+
+/// Lines at the bounds of what is accepted, the refused ones after them, and what was accepted.
+#[rattlefmt::skip]
+static AT_BOUNDS: [(Line, &str); 14] = [
+    (Line::Nested(97), r#"= {"ok":1}"#),
+    (Line::Is(r#"{"cmd":"event","event":{"content":{"n":9007199254740991},"event_id":"$n1","room_id":"!r:example.org","sender":"@a:example.org","type":"m.room.message"}}"#), r#"= {"ok":2}"#),
+    (Line::Is(r#"{"cmd":"event","event":{"content":{"n":-9007199254740991},"event_id":"$n2","room_id":"!r:example.org","sender":"@a:example.org","type":"m.room.message"}}"#), r#"= {"ok":3}"#),
+    (Line::Id(254), r#"= {"ok":4}"#),
+    (Line::Kind(255), r#"= {"ok":5}"#),
+    // As a server hands an event out.
+    (Line::Is(r#"{"cmd":"event","event":{"content":{"body":"hi","m.mentions":{},"msgtype":"m.text"},"event_id":"$143273582443PhrSn8Yp0wVcDkWuBtGXbA3mJqLzTHe","origin_server_ts":1432735824653,"room_id":"!r:example.org","sender":"@a:example.org","type":"m.room.message","unsigned":{"age":1234}}}"#), r#"= {"ok":6}"#),
+    // Two keys of one name: the last counts.
+    (Line::Is(r#"{"cmd":"event","event":{"content":{},"event_id":"$twice","event_id":"$last","room_id":"!r:example.org","sender":"@a:example.org","type":"m.room.message"}}"#), r#"= {"ok":7}"#),
+    (Line::Nested(98), r#"= {"error":"BadLine"}"#),
+    (Line::Id(255), r#"= {"error":"BadField","field":"event.event_id"}"#),
+    (Line::Id(0), r#"= {"error":"BadField","field":"event.event_id"}"#),
+    (Line::Kind(256), r#"= {"error":"BadField","field":"event.type"}"#),
+    (Line::Is(r#"{"cmd":"counts","room_id":"!r:example.org","user":"@b:example.org"}"#), r#"= {"highlight_count":0,"notification_count":6,"threads":{}}"#),
+    (Line::Long(131_073), r#"= {"error":"LineTooLong"}"#),
+    (Line::Long(131_072), r#"= {"ok":8}"#),
+];
+
+fn lines_at_bounds(rt: &impl Abort, alloc: Global) -> Script {
     let mut script = Script::new(alloc);
-    for (index, line) in accepted_lines(alloc)?.iter().enumerate() {
-        let reply = format!(in alloc; "= {{\"ok\":{}}}", index + 1)?;
-        script.say(line.as_bytes(), reply.as_str())?;
+    for (line, reply) in AT_BOUNDS {
+        say_line(rt, alloc, &mut script, line, reply);
     }
-    let id = format!(in alloc; "${}", "i".repeat(alloc, 255)?)?;
-    for (line, reply) in [
-        (nested(alloc, "$101", 98)?, "= {\"error\":\"BadLine\"}"),
-        (
-            message(alloc, id.as_str(), "{}")?,
-            "= {\"error\":\"BadField\",\"field\":\"event.event_id\"}",
-        ),
-        (
-            message(alloc, "$", "{}")?,
-            "= {\"error\":\"BadField\",\"field\":\"event.event_id\"}",
-        ),
-        (
-            event(alloc, "$r", "@a:", "t".repeat(alloc, 256)?.as_str(), "{}")?,
-            "= {\"error\":\"BadField\",\"field\":\"event.type\"}",
-        ),
-        (
-            counts(alloc, "@b:example.org")?,
-            "= {\"highlight_count\":0,\"notification_count\":6,\"threads\":{}}",
-        ),
-    ] {
-        script.say(line.as_bytes(), reply)?;
-    }
-    let long = message(alloc, "$long", "{}")?;
-    script.say(
-        &padded(alloc, long.as_str(), 131_073)?,
-        "= {\"error\":\"LineTooLong\"}",
-    )?;
-    script.say(&padded(alloc, long.as_str(), 131_072)?, "= {\"ok\":8}")?;
-    assert!(rt; runs_as_said(alloc, &script)?);
-    Ok(())
+    script
+}
+
+fn say_line(rt: &impl Abort, alloc: Global, script: &mut Script, line: Line, reply: &str) {
+    let text = text_of(rt, alloc, line);
+    script.say(rt, text.as_bytes(), reply);
+}
+
+#[test]
+fn lines_at_their_bounds(rt: HostRuntime) {
+    assert!(rt; answers_at_bounds(&rt, rt.alloc()));
+}
+
+fn answers_at_bounds(rt: &impl Abort, alloc: Global) -> bool {
+    let script = lines_at_bounds(rt, alloc);
+    is_served(rt, alloc, &script, 0)
 }

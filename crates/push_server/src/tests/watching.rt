@@ -3,26 +3,24 @@
 ghost use Rattle.std.specs.Prelude.{◌≡◌, ◌≤◌};
 ghost use Rattle.mx_outside.specs.Told.{Rose};
 
-use super::serving::{CAPACITY, counts, message, source_of, words};
-use crate::serve::serve;
+use super::fixtures::{serve_words, sink, source_of};
 use crate::status::Status;
-use mx_outside::{FailingSink, FailingSource, Got, Put, Sink, Source, VecSink};
-use std::alloc::{AllocError, Global};
+use mx_outside::{FailingSink, FailingSource, Got, Put, Sink, Source};
+use std::alloc::Global;
 use std::cell::Cell;
-use std::rc::Rc;
-use std::test::Fail;
+use std::process::Abort;
 
 /// A source that gives one line a call, each only where all lines before it have their replies.
 #[derive(Drop)]
-struct OneByOne {
-    lines: Vec<String>,
+struct OneByOne<'a> {
+    lines: &'a [&'a str],
     given: usize,
-    replied: Rc<Cell<usize>>,
+    replied: &'a Cell<usize>,
     largest: usize,
     faults: u64,
 }
 
-impl OneByOne {
+impl<'a> OneByOne<'a> {
     fn fail(&mut self) -> Got
         ensures fails { result ≡ Got.Failed }
         ensures counts { Rose self.old.faults self.new.faults }
@@ -33,7 +31,7 @@ impl OneByOne {
     }
 }
 
-impl Source for OneByOne {
+impl<'a> Source for OneByOne<'a> {
     ghost use Rattle.std.specs.Prelude.{false, None};
 
     ghost left = { λ _. None };
@@ -63,11 +61,11 @@ impl Source for OneByOne {
 
 /// A sink that counts the line feeds that it takes.
 #[derive(Drop)]
-struct CountsReplies {
-    replied: Rc<Cell<usize>>,
+struct CountsReplies<'a> {
+    replied: &'a Cell<usize>,
 }
 
-impl Sink for CountsReplies {
+impl<'a> Sink for CountsReplies<'a> {
     ghost use Rattle.std.specs.Prelude.{None};
     ghost use Rattle.mx_outside.specs.Budget.{no_budget};
 
@@ -85,37 +83,32 @@ impl Sink for CountsReplies {
 }
 
 /// Three lines, each with its line feed.
-fn three_lines(alloc: Global) -> Result<Vec<String>, AllocError> {
-    let mut lines = Vec::new(alloc);
-    for line in [
-        message(alloc, "$1", "{}")?,
-        counts(alloc, "@b:example.org")?,
-        message(alloc, "$2", "{}")?,
-    ] {
-        lines.push(format!(in alloc; "{line}\n")?)?;
-    }
-    Ok(lines)
-}
+#[rattlefmt::skip]
+static THREE_LINES: [&str; 3] = [
+    "{\"cmd\":\"event\",\"event\":{\"content\":{},\"event_id\":\"$1\",\"room_id\":\"!r:example.org\",\"sender\":\"@a:example.org\",\"type\":\"m.room.message\"}}\n",
+    "{\"cmd\":\"counts\",\"room_id\":\"!r:example.org\",\"user\":\"@b:example.org\"}\n",
+    "{\"cmd\":\"event\",\"event\":{\"content\":{},\"event_id\":\"$2\",\"room_id\":\"!r:example.org\",\"sender\":\"@a:example.org\",\"type\":\"m.room.message\"}}\n",
+];
 
 #[test]
-fn each_line_is_answered_before_the_next_read(rt: HostRuntime) -> Result<(), Fail> {
-    let alloc = rt.alloc();
-    let replied = Rc::new(alloc, Cell::new(0))?;
+fn each_line_is_answered_before_the_next_read(rt: HostRuntime) {
+    // Three replies, and a read asks for 65,536 bytes at the most.
+    assert_eq!(rt; watch(&rt, rt.alloc()), (Status::Done, 3, 65_536));
+}
+
+/// How serving three lines ends, how many replies it writes, and the most bytes that a read asks for.
+fn watch(rt: &impl Abort, alloc: Global) -> (Status, usize, usize) {
+    let replied = Cell::new(0);
     let mut source = OneByOne {
-        lines: three_lines(alloc)?,
+        lines: &THREE_LINES,
         given: 0,
-        replied: replied.clone()?,
+        replied: &replied,
         largest: 0,
         faults: 0,
     };
-    let mut sink = CountsReplies {
-        replied: replied.clone()?,
-    };
-    let status = serve(alloc, &words(alloc)?, &mut source, &mut sink);
-    assert_eq!(rt; status, Status::Done);
-    assert_eq!(rt; replied.get(), 3);
-    assert_eq!(rt; source.largest, 65_536);
-    Ok(())
+    let mut sink = CountsReplies { replied: &replied };
+    let status = serve_words(rt, alloc, &mut source, &mut sink);
+    (status, replied.get(), source.largest)
 }
 
 /// A source or a sink whose calls are counted.
@@ -152,24 +145,40 @@ impl<K: Sink> Sink for Counted<K> {
 }
 
 #[test]
-fn the_first_fault_ends_the_run(rt: HostRuntime) -> Result<(), Fail> {
-    let alloc = rt.alloc();
-    let input = b"{}\n{}\n{}\n";
-    let failing = FailingSource::new(source_of(alloc, input, 3)?, [2].to_vec(alloc)?);
+fn the_first_fault_ends_the_run(rt: HostRuntime) {
+    assert_eq!(rt; reads_to_fault(&rt, rt.alloc()), (Status::ReadFault, 2));
+    assert_eq!(rt; writes_to_fault(&rt, rt.alloc()), (Status::WriteFault, 2));
+}
+
+const INPUT: &[u8] = b"{}\n{}\n{}\n";
+
+/// How a run ends whose second read fails, and how many reads it makes.
+fn reads_to_fault(rt: &impl Abort, alloc: Global) -> (Status, u64) {
+    let bytes = source_of(rt, alloc, INPUT, 3);
     let mut source = Counted {
-        below: failing,
+        below: FailingSource::new(bytes, [2].to_vec(alloc).expect(rt, "a call")),
         calls: 0,
     };
-    let mut kept = VecSink::new(alloc, CAPACITY, CAPACITY)?;
-    let status = serve(alloc, &words(alloc)?, &mut source, &mut kept);
-    assert_eq!(rt; (status, source.calls), (Status::ReadFault, 2));
-    let mut bytes = source_of(alloc, input, 0)?;
-    let kept = VecSink::new(alloc, CAPACITY, CAPACITY)?;
+    let status = keep_output(rt, alloc, &mut source);
+    (status, source.calls)
+}
+
+fn keep_output<S: Source>(rt: &impl Abort, alloc: Global, source: &mut S) -> Status {
+    let mut sink = sink(rt, alloc);
+    serve_words(rt, alloc, source, &mut sink)
+}
+
+/// How a run ends whose second write fails, and how many writes it makes.
+fn writes_to_fault(rt: &impl Abort, alloc: Global) -> (Status, u64) {
     let mut sink = Counted {
-        below: FailingSink::new(kept, [2].to_vec(alloc)?),
+        below: FailingSink::new(sink(rt, alloc), [2].to_vec(alloc).expect(rt, "a call")),
         calls: 0,
     };
-    let status = serve(alloc, &words(alloc)?, &mut bytes, &mut sink);
-    assert_eq!(rt; (status, sink.calls), (Status::WriteFault, 2));
-    Ok(())
+    let status = take_input(rt, alloc, &mut sink);
+    (status, sink.calls)
+}
+
+fn take_input<K: Sink>(rt: &impl Abort, alloc: Global, sink: &mut K) -> Status {
+    let mut source = source_of(rt, alloc, INPUT, 0);
+    serve_words(rt, alloc, &mut source, sink)
 }
