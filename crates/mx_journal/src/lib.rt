@@ -16,8 +16,6 @@ mod open;
 mod phase;
 mod read;
 mod stage;
-#[cfg(test)]
-mod tests;
 mod write;
 
 pub use error::{CommitError, JournalError, OpenError, StageError};

@@ -18,8 +18,6 @@ mod memory_disk;
 mod repeat_source;
 mod sink;
 mod source;
-#[cfg(test)]
-mod tests;
 mod vec_sink;
 
 pub use bytes_source::BytesSource;

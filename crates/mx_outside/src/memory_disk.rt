@@ -12,9 +12,6 @@ use mx_json::OutOfMemory;
 use std::alloc::{AllocError, Global};
 use std::marker::Model;
 
-#[cfg(test)]
-mod tests;
-
 /// The greatest length of a disk in bytes.
 const GREATEST_LENGTH: u64 = 0x7fff_ffff_ffff_ffff;
 
