@@ -1,0 +1,44 @@
+-- Rows of unread events, what counts and cuts of a list of them are, and in which order threads are told: ours.
+use Rattle.std.specs.Prelude.{ℕ, ◌-◌, ◌^◌, min, nat_lt, nat_le, Bool, true, false, ◌&&◌, List, [], ◌∷◌, length, filter, count_by}
+use Rattle.std.specs.List.{list_all}
+use Rattle.mx_rows.specs.declared.counts.Counts.{Counts}
+use Rattle.mx_rows.specs.declared.row.Row.{Row}
+use Rattle.mx_rows.specs.declared.thread_key.ThreadKey.{ThreadKey}
+
+-- the rows above a position, which are those that a cut there leaves
+abbrev pub above : ℕ → List Row → List Row
+above position rows = filter (λ row. nat_lt position row.position) rows
+
+-- the rows at or below a position, which are those that a cut there drops
+abbrev pub upto : ℕ → List Row → List Row
+upto position rows = filter (λ row. nat_le row.position position) rows
+
+-- how many rows there are, and how many of them are highlighted
+abbrev pub counts_in : List Row → Counts
+counts_in rows = record { notify = length rows; highlight = count_by (λ row. row.highlight) rows }
+
+-- the largest number that a count may be
+abbrev pub largest_count : ℕ
+largest_count = 2 ^ 64 - 1
+
+-- counts that stand still at the largest number
+abbrev pub saturated : Counts → Counts
+saturated counts = record { notify = min counts.notify largest_count; highlight = min counts.highlight largest_count }
+
+-- each row stands below all that come after it
+abbrev pub is_rising : List Row → Bool
+is_rising [] = true
+is_rising (row ∷ rows) = list_all (λ later. nat_lt row.position later.position) rows && is_rising rows
+
+-- the position of the first row, and past every position where there is none
+abbrev pub start_of : List Row → ℕ
+start_of [] = 2 ^ 64
+start_of (row ∷ rows) = row.position
+
+abbrev pub has_rows : List Row → Bool
+has_rows [] = false
+has_rows (row ∷ rows) = true
+
+-- those of the threads that have rows, by the list of each
+abbrev pub with_rows : (ThreadKey → List Row) → List ThreadKey → List ThreadKey
+with_rows list threads = filter (λ thread. has_rows (list thread)) threads

@@ -1,0 +1,16 @@
+//! Rows of unread events, a list for each thread.
+//!
+//! [`Rows`] is what such lists are kept by; [`PlainRows`] keeps them plainly, and packs nothing.
+#![tactic(auto)]
+
+mod counts;
+mod row;
+mod rows;
+mod thread_key;
+mod thread_rows;
+mod threads;
+
+pub use counts::{Counts, Sizes};
+pub use row::Row;
+pub use rows::Rows;
+pub use thread_key::ThreadKey;
