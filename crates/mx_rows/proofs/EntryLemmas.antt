@@ -1,22 +1,24 @@
 -- Threads in the order of their first rows: look-ups, and what a move leaves.
-use Rattle.std.proofs.Common.{◌≡◌, ℕ, zero, suc, ◌+◌, ◌<◌, ◌≤◌, Bool, true, false, cond, not, ◌||◌, List, [], ◌∷◌, length, map, sum_by, get_or, insert, remove, slice_get, Option, Some, None, refl, sym, ap, ◌∙◌, subst, ⊎_elim, arith}
+use Rattle.std.proofs.Common.{◌≡◌, ℕ, zero, suc, ◌+◌, ◌<◌, ◌≤◌, Bool, true, false, cond, not, ◌&&◌, ◌||◌, List, [], ◌∷◌, length, map, sum_by, get_or, insert, remove, position, slice_get, Option, Some, option_map, refl, sym, ap, ◌∙◌, subst, ⊎_elim, arith}
 use Rattle.std.proofs.lemmas.Bool.{cases_lt, cond_both, false≢true}
 use Rattle.std.proofs.Math.ListN.{get_or-map}
 use Rattle.std.proofs.lemmas.List.{length-map}
 use Rattle.std.proofs.lemmas.List.Edits.{get_or-remove_above, get_or-remove_below, length-remove}
 use Rattle.std.proofs.lemmas.List.Sums.{sum_by-insert, sum_by-remove}
 use Rattle.std.proofs.lemmas.List.Sorted.{IsNonDecreasingBy-insert}
-use Rattle.std.proofs.lemmas.Map.Entries.{lookup_from_place}
-use Rattle.std.proofs.lemmas.Option.{slice_get-get_or, slice_get_cases, slice_get_within}
+use Rattle.std.proofs.lemmas.List.Quantifiers.{position-Some}
+use Rattle.std.proofs.lemmas.Map.Entries.{length-keys_of, lookup_from_place}
+use Rattle.std.proofs.lemmas.Option.{get_or_from_slice_get, slice_get-get_or, slice_get-map, slice_get_cases, slice_get_within}
 use Rattle.std.specs.HashMap.Eq.{lookup_congr}
 use Rattle.std.specs.List.{IsDistinct}
 use Rattle.std.specs.List.Sorted.{IsNonDecreasingBy}
 use Rattle.std.specs.Map.{keys_of, lookup}
+use Rattle.std.specs.Option.{option_map_or}
 use Rattle.indexmap.specs.IndexMap.{set_value_at}
 use Rattle.mx_rows.specs.declared.row.Row.{Row}
 use Rattle.mx_rows.specs.declared.thread_key.ThreadKey.{ThreadKey}
 use Rattle.mx_rows.specs.declared.thread_rows.ThreadRows.{ThreadRows}
-use Rattle.mx_rows.specs.Plain.{Entries, InOrder, IsPlace, is_spent, reserved_in, rows_in, start_at}
+use Rattle.mx_rows.specs.Plain.{Entries, InOrder, IsPlace, is_spent, rows_in, start_at}
 use Rattle.mx_rows.specs.Rows.{has_rows}
 use Rattle.mx_rows.specs.Threads.{same_thread, same_thread-equiv}
 
@@ -57,6 +59,7 @@ read_after es new key before left at f found updated says t = by (same_thread ke
   where
     here : same_thread key t ≡ true → lookup (same_thread t) es ≡ before
     here same = lookup_congr same_thread same_thread-equiv.congr es t key (same_thread-equiv.symm t key ∙ same) ∙ found
+
     by : (b : Bool) → same_thread key t ≡ b → at (lookup (same_thread t) new) ≡ cond (same_thread key t) (f (at (lookup (same_thread t) es))) (at (lookup (same_thread t) es))
     by true same = ap at (updated t) ∙ ap (λ c. at (cond c left (lookup (same_thread t) es))) same ∙ says ∙ ap (λ o. f (at o)) (sym (here same)) ∙ sym (ap (λ c. cond c (f (at (lookup (same_thread t) es))) (at (lookup (same_thread t) es))) same)
     by false same = ap at (updated t) ∙ ap (λ c. at (cond c left (lookup (same_thread t) es))) same ∙ sym (ap (λ c. cond c (f (at (lookup (same_thread t) es))) (at (lookup (same_thread t) es))) same)
@@ -130,8 +133,8 @@ InOrder-settled es i to start e b within order place starts =
     let shorter = length-remove es i within in
     cond_both b (remove es i) (insert (remove es i) to e) InOrder (λ _. left)
     (λ _. IsNonDecreasingBy-insert start_at (remove es i) to e left (let fits = place.within in omega arith)
-      (λ k d below. let h = place.before k d below in omega arith)
-      (λ k d from below. let h = place.after k d from below in omega arith))
+    (λ k d below. let h = place.before k d below in omega arith)
+    (λ k d from below. let h = place.after k d from below in omega arith))
 
 -- what is summed over the threads falls by what was summed of the one that changed
 pub sum_by-settled : (f : ThreadKey × ThreadRows → ℕ) (es : Entries) (i to : ℕ) (old new : ThreadKey × ThreadRows) (b : Bool) → slice_get es i ≡ Some old → f new ≡ 0
@@ -150,3 +153,37 @@ pub settled : (es written new : Entries) (i to : ℕ) (e : ThreadKey × ThreadRo
 settled es written new i to e w is write says =
     says (e.0, w) (ap (λ l. slice_get l i) write ∙ slice_get-set_value_at es i e w is)
     ∙ ap (λ l. cond (is_spent w) l (insert l to (e.0, w))) (ap (λ l. remove l i) write ∙ remove-set_value_at es i w)
+
+-- ---- an entry by its index
+
+-- the entry at the index where a thread was found
+pub entry_found : (es : Entries) (t : ThreadKey) (i : ℕ) → Some i ≡ position (same_thread t) (keys_of es)
+    → (e : ThreadKey × ThreadRows) × (slice_get es i ≡ Some e) × (same_thread t e.0 ≡ true)
+entry_found es t i is =
+    let found = position-Some (same_thread t) (keys_of es) i t (sym is) in
+    let long = length-keys_of es in
+    let here = some_at es i (omega arith) in
+    let key : slice_get (keys_of es) i ≡ Some here.0.0 = slice_get-map (λ (e : ThreadKey × ThreadRows). e.0) es i ∙ ap (option_map (λ (e : ThreadKey × ThreadRows). e.0)) here.1 in
+    (here.0, here.1, ap (same_thread t) (sym (get_or_from_slice_get (keys_of es) i here.0.0 t key)) ∙ found.1)
+
+-- what is said of the thread of an entry, said of the thread that it was found by
+pub by_found : {A : Type 0} (t key q : ThreadKey) (x y : A) → same_thread t key ≡ true → cond (same_thread key q) x y ≡ cond (same_thread t q) x y
+by_found t key q x y same = ap (λ b. cond b x y) (sym (same_thread-equiv.congr t key q same))
+
+-- the index of an entry's value
+pub value_at : (es : Entries) (i : ℕ) (e : ThreadKey × ThreadRows) (v : ThreadRows) → slice_get es i ≡ Some e → slice_get (map (λ x. x.1) es) i ≡ Some v → v ≡ e.1
+value_at es i e v is value = some_same (sym value ∙ slice_get-map (λ (x : ThreadKey × ThreadRows). x.1) es i ∙ ap (option_map (λ (x : ThreadKey × ThreadRows). x.1)) is)
+
+pub or_where : (b k s : Bool) → cond s (b || k) b ≡ (b || (k && s))
+or_where true k true = refl
+or_where true k false = refl
+or_where false true true = refl
+or_where false true false = refl
+or_where false false true = refl
+or_where false false false = refl
+
+-- the rows of the thread that an entry was found by
+pub rows_found : (es : Entries) (t : ThreadKey) (i : ℕ) (e : ThreadKey × ThreadRows) → IsDistinct same_thread (keys_of es) → slice_get es i ≡ Some e → same_thread t e.0 ≡ true
+    → e.1.rows.items ≡ rows_in es t
+rows_found es t i e once is same =
+    sym (ap (λ o. option_map_or (λ (kept : ThreadRows). kept.rows.items) o []) (lookup_congr same_thread same_thread-equiv.congr es t e.0 same ∙ found_at es i e once is))

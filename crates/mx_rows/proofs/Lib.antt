@@ -1,2 +1,4 @@
 pub mod RowLemmas
 pub mod EntryLemmas
+pub mod CutLemmas
+pub mod PlainLemmas

@@ -1,12 +1,12 @@
 -- Lists of rows: what rises, where a list starts, what a cut leaves of it and drops.
-use Rattle.std.proofs.Common.{◌≡◌, ℕ, ◌+◌, ◌<◌, ◌≤◌, nat_lt, nat_le, Bool, true, false, cond, ◌&&◌, List, [], ◌∷◌, ◌++◌, length, filter, count_by, All, Option, Some, None, find, refl, sym, ap, ◌∙◌, arith}
-use Rattle.std.proofs.lemmas.Bool.{and_parts, and_from, cond-false, cond_both, lt-leb, lt-ltb, ltb-true}
+use Rattle.std.proofs.Common.{◌≡◌, ℕ, ◌+◌, ◌<◌, ◌≤◌, nat_lt, nat_le, Bool, true, false, cond, ◌&&◌, List, [], ◌∷◌, ◌++◌, filter, count_by, All, Option, Some, find, refl, sym, ap, ◌∙◌, arith}
+use Rattle.std.proofs.lemmas.Bool.{and_parts, and_from, cond-false, cond_both, lt-leb, lt-ltb, ltb-true, false≢true}
 use Rattle.std.proofs.lemmas.List.Elements.{All-head, All-tail}
 use Rattle.std.proofs.lemmas.List.Sums.{length-filter, sum_by-cons}
 use Rattle.std.specs.List.{list_all}
 use Rattle.std.specs.Option.{option_map_or}
 use Rattle.mx_rows.specs.declared.row.Row.{Row}
-use Rattle.mx_rows.specs.Rows.{above, counts_in, is_rising, start_of, upto}
+use Rattle.mx_rows.specs.Rows.{above, are_in_range, counts_in, has_rows, is_rising, start_of, upto}
 
 -- ---- tests of each element
 
@@ -78,3 +78,13 @@ upto-above n (row ∷ rows) =
     let rest = upto-above n rows in
     cond_both (nat_lt n row.position) (row ∷ above n rows) (above n rows) (λ l. upto n l ≡ [])
     (λ over. cond-false _ _ _ (lt-leb _ _ (ltb-true _ _ over)) ∙ rest) (λ _. rest)
+
+-- ---- a row more
+
+pub start_of-push : (rows : List Row) (row : Row) → has_rows rows ≡ true → start_of (rows ++ row ∷ []) ≡ start_of rows
+start_of-push [] row some = absurd (false≢true some)
+start_of-push (first ∷ rows) row some = refl
+
+pub start_of-le : (rows : List Row) → are_in_range rows ≡ true → start_of rows ≤ 18446744073709551616
+start_of-le [] small = omega arith
+start_of-le (row ∷ rows) small = let first = ltb-true _ _ (and_parts (nat_lt row.position 18446744073709551616) (are_in_range rows) small).0 in omega arith

@@ -1,3 +1,4 @@
 pub mod Threads
 pub mod Rows
 pub mod Plain
+pub mod PlainLaws

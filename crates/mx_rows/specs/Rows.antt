@@ -1,5 +1,5 @@
 -- Rows of unread events, what counts and cuts of a list of them are, and in which order threads are told: ours.
-use Rattle.std.specs.Prelude.{ℕ, ◌-◌, ◌^◌, min, nat_lt, nat_le, Bool, true, false, ◌&&◌, List, [], ◌∷◌, length, filter, count_by}
+use Rattle.std.specs.Prelude.{ℕ, ◌-◌, ◌^◌, min, nat_lt, nat_le, Bool, true, false, ◌&&◌, List, [], ◌∷◌, length, map, filter, count_by}
 use Rattle.std.specs.List.{list_all}
 use Rattle.mx_rows.specs.declared.counts.Counts.{Counts}
 use Rattle.mx_rows.specs.declared.row.Row.{Row}
@@ -30,6 +30,10 @@ abbrev pub is_rising : List Row → Bool
 is_rising [] = true
 is_rising (row ∷ rows) = list_all (λ later. nat_lt row.position later.position) rows && is_rising rows
 
+-- each position fits a u64
+abbrev pub are_in_range : List Row → Bool
+are_in_range rows = list_all (λ row. nat_lt row.position (2 ^ 64)) rows
+
 -- the position of the first row, and past every position where there is none
 abbrev pub start_of : List Row → ℕ
 start_of [] = 2 ^ 64
@@ -42,3 +46,12 @@ has_rows (row ∷ rows) = true
 -- those of the threads that have rows, by the list of each
 abbrev pub with_rows : (ThreadKey → List Row) → List ThreadKey → List ThreadKey
 with_rows list threads = filter (λ thread. has_rows (list thread)) threads
+
+-- each number is at most all that come after it
+abbrev pub never_falls : List ℕ → Bool
+never_falls [] = true
+never_falls (n ∷ ns) = list_all (λ later. nat_le n later) ns && never_falls ns
+
+-- the threads stand in the order of their first rows, by the list of each
+abbrev pub are_in_order : (ThreadKey → List Row) → List ThreadKey → Bool
+are_in_order list threads = never_falls (map (λ thread. start_of (list thread)) threads)

@@ -1,11 +1,10 @@
 ghost use Rattle.std.specs.Prelude.{◌≡◌, ◌+◌, ◌<◌, ◌≤◌, Bool, true, false, ◌&&◌, ◌||◌, if◌then◌else◌, nat_le, is_ok, List, [], ◌∷◌, ◌++◌, length, drop, slice_get, All, IfOk, OnOk, OnErr, IfSome, IfNone};
 ghost use Rattle.std.specs.List.{flat_map, IsDistinct};
-ghost use Rattle.std.specs.List.Sorted.{IsNonDecreasingBy};
 ghost use Rattle.std.specs.Option.{option_copied};
 ghost use Rattle.std.specs.Result.{result_unwrap_or};
 ghost use Rattle.mx_rows.specs.declared.row.Row.{Row};
 ghost use Rattle.mx_rows.specs.declared.thread_key.ThreadKey.{ThreadKey};
-ghost use Rattle.mx_rows.specs.Rows.{above, counts_in, is_rising, saturated, start_of, upto, with_rows};
+ghost use Rattle.mx_rows.specs.Rows.{above, are_in_order, counts_in, is_rising, saturated, upto, with_rows};
 ghost use Rattle.mx_rows.specs.Threads.{has_thread, same_thread};
 
 use crate::counts::{Counts, Sizes};
@@ -128,8 +127,8 @@ pub trait Rows: Drop {
 
     ghost once: { (rows : Self) → IsDistinct same_thread (threads rows) };
 
-    ghost in_order: { (rows : Self) → IsNonDecreasingBy (λ t. start_of (list rows t))
-        (with_rows (list rows) (threads rows)) };
+    ghost in_order: { (rows : Self)
+        → are_in_order (list rows) (with_rows (list rows) (threads rows)) ≡ true };
 
     ghost rising: { (rows : Self) (t : ThreadKey) → is_rising (list rows t) ≡ true };
 

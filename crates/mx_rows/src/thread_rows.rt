@@ -1,6 +1,6 @@
 ghost use Rattle.std.specs.Prelude.{◌≡◌, ◌<◌, ◌&&◌, ◌||◌, not, nat_lt, nat_le, count_by, find, true, false, [], ◌∷◌, ◌++◌, is_ok, All, IfOk, vec_len, vec_capacity};
 ghost use Rattle.std.specs.Option.{option_copied};
-ghost use Rattle.mx_rows.specs.Rows.{above, counts_in, has_rows, is_rising, start_of, upto};
+ghost use Rattle.mx_rows.specs.Rows.{above, are_in_range, counts_in, has_rows, is_rising, start_of, upto};
 
 use crate::counts::Counts;
 use crate::row::Row;
@@ -13,6 +13,7 @@ pub struct ThreadRows {
     pub rows: Vec<Row>,
     pub reserved: bool,
     ghost rising: { is_rising rows.items ≡ true },
+    ghost in_range: { are_in_range rows.items ≡ true },
     ghost capacity: { reserved ≡ true → vec_len rows < vec_capacity rows },
 }
 
@@ -75,6 +76,13 @@ impl ThreadRows {
             Some(row) => u128::from(row.position),
             None => 1 << 64,
         }
+    }
+
+    /// Whether there is a row.
+    pub fn has_rows(&self) -> bool
+        ensures { result ≡ has_rows self.now.rows.items }
+    {
+        !self.rows.is_empty()
     }
 
     /// Whether there is neither a row nor capacity for one.

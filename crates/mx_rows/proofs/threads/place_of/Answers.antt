@@ -1,4 +1,4 @@
-use Rattle.std.proofs.Common.{◌≡◌, ℕ, ◌+◌, ◌<◌, ◌≤◌, length, remove, arith}
+use Rattle.std.proofs.Common.{◌+◌, ◌≤◌, arith}
 use Rattle.std.proofs.lemmas.List.Edits.{length-remove}
 use Rattle.mx_rows.specs.Plain.{start_at}
 use Rattle.mx_rows.proofs.EntryLemmas.{at_remove}
@@ -12,9 +12,9 @@ returns-then-index-upto c =
     record {
       within = omega arith;
       before = λ k d below. at_remove (λ e. start_at e ≤ c.args.start) es c.args.index k d c.requires.within
-        (λ lt. upto.before k d (omega arith)) (λ le. upto.before (k + 1) d (omega arith));
+          (λ lt. upto.before k d (omega arith)) (λ le. upto.before (k + 1) d (omega arith));
       after = λ k d from below. at_remove (λ e. c.args.start ≤ start_at e) es c.args.index k d c.requires.within
-        (λ lt. absurd (omega arith)) (λ le. let past = upto.after (k + 1) d (omega arith) (omega arith) in omega arith);
+          (λ lt. absurd (omega arith)) (λ le. let past = upto.after (k + 1) d (omega arith) (omega arith) in omega arith);
     }
 
 pub returns-else-index-upto : goal.returns-else-index-upto
@@ -25,8 +25,8 @@ returns-else-index-upto c =
     record {
       within = omega arith;
       before = λ k d below. at_remove (λ e. start_at e ≤ c.args.start) es c.args.index k d c.requires.within
-        (λ lt. upto.before k d below) (λ le. absurd (omega arith));
+          (λ lt. upto.before k d below) (λ le. absurd (omega arith));
       after = λ k d from below. at_remove (λ e. c.args.start ≤ start_at e) es c.args.index k d c.requires.within
-        (λ lt. let past = upto.after k d from (omega arith) in omega arith)
-        (λ le. let past = upto.after (k + 1) d (omega arith) (omega arith) in omega arith);
+          (λ lt. let past = upto.after k d from (omega arith) in omega arith)
+          (λ le. let past = upto.after (k + 1) d (omega arith) (omega arith) in omega arith);
     }

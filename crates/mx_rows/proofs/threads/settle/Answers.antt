@@ -1,12 +1,11 @@
-use Rattle.std.proofs.Common.{◌≡◌, [], Some, None, true, false, cond, if◌then◌else◌, insert, remove, slice_get, option_map, IfSome, refl, sym, subst, ◌∙◌, ap}
+use Rattle.std.proofs.Common.{◌≡◌, [], Some, None, true, false, insert, remove, option_map, IfSome, sym, subst, ◌∙◌, ap}
 use Rattle.std.proofs.lemmas.Bool.{cond-false}
 use Rattle.std.proofs.lemmas.Option.{slice_get-map}
 use Rattle.std.specs.Option.{option_map_or}
-use Rattle.std.specs.Map.{lookup}
 use Rattle.indexmap.specs.IndexMap.{Updates}
 use Rattle.mx_rows.specs.declared.thread_key.ThreadKey.{ThreadKey}
 use Rattle.mx_rows.specs.declared.thread_rows.ThreadRows.{ThreadRows}
-use Rattle.mx_rows.specs.Plain.{is_spent, reserved_in, rows_in}
+use Rattle.mx_rows.specs.Plain.{is_spent}
 use Rattle.mx_rows.specs.Threads.{same_thread}
 use Rattle.mx_rows.proofs.EntryLemmas.{found_at, read_same, some_at, some_same, spent_parts}
 use Rattle.mx_rows.proofs.threads.settle.Goals as goal

@@ -1,4 +1,4 @@
-use Rattle.std.proofs.Common.{◌≡◌, ◌+◌, [], Some, cond, length, insert, remove, slice_get, option_map, count_by, sum_by, sym, subst, ◌∙◌, ap, arith}
+use Rattle.std.proofs.Common.{◌≡◌, ◌+◌, Some, length, option_map, count_by, sum_by, sym, subst, ◌∙◌, ap, arith}
 use Rattle.std.proofs.lemmas.Option.{slice_get-map}
 use Rattle.mx_rows.specs.declared.counts.Counts.{Counts}
 use Rattle.mx_rows.specs.declared.row.Row.{Row}
@@ -8,7 +8,7 @@ use Rattle.mx_rows.specs.Plain.{InOrder, is_spent, start_at}
 use Rattle.mx_rows.specs.Rows.{above, start_of, upto}
 use Rattle.mx_rows.proofs.EntryLemmas.{InOrder-settled, settled, some_at, some_same, sum_by-settled}
 use Rattle.mx_rows.proofs.RowLemmas.{upto-above}
-use Rattle.mx_rows.proofs.threads.cut_at.Goals as goal
+use Rattle.mx_rows.proofs.cutting.cut_at.Goals as goal
 
 pub settle-requires-clause-from : goal.settle-requires-clause-from
 settle-requires-clause-from c = let long = c.cut_in_place-dropped.ensures.long in let within = c.requires.within in omega arith

@@ -5,11 +5,10 @@ use Rattle.indexmap.specs.IndexMap.{set_value_at}
 use Rattle.indexmap.proofs.CallerLemmas.{index_map_len-with_value_at, keys-with_value_at, updates-with_value_at}
 use Rattle.mx_rows.specs.declared.thread_key.ThreadKey.{ThreadKey}
 use Rattle.mx_rows.specs.declared.thread_rows.ThreadRows.{ThreadRows}
-use Rattle.mx_rows.specs.Plain.{reserved_in, rows_in}
 use Rattle.mx_rows.specs.Rows.{above, counts_in, upto}
 use Rattle.mx_rows.specs.Threads.{same_thread, same_thread-equiv}
 use Rattle.mx_rows.proofs.EntryLemmas.{found_at, read_after, read_same, some_same}
-use Rattle.mx_rows.proofs.threads.cut_in_place.Goals as goal
+use Rattle.mx_rows.proofs.cutting.cut_in_place.Goals as goal
 
 pub returns-clause-long : goal.returns-clause-long
 returns-clause-long c = index_map_len-with_value_at c.args.threads.now c.args.index c.cut.new.self
