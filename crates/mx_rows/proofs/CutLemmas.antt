@@ -11,7 +11,7 @@ use Rattle.mx_rows.specs.declared.counts.Counts.{Counts}
 use Rattle.mx_rows.specs.declared.row.Row.{Row}
 use Rattle.mx_rows.specs.declared.thread_key.ThreadKey.{ThreadKey}
 use Rattle.mx_rows.specs.declared.thread_rows.ThreadRows.{ThreadRows}
-use Rattle.mx_rows.specs.Plain.{Entries, InOrder, highlights_left_to_cut, reserved_in, rows_in, rows_left_to_cut, start_at}
+use Rattle.mx_rows.specs.Plain.{are_needed, AreDistinct, Entries, InOrder, highlights_left_to_cut, reserved_in, rows_in, rows_left_to_cut, start_at}
 use Rattle.mx_rows.specs.Rows.{above, is_rising, largest_count, start_of, upto}
 use Rattle.mx_rows.specs.Threads.{same_thread}
 use Rattle.mx_rows.proofs.EntryLemmas.{get_or_of_slice_get}
@@ -19,11 +19,14 @@ use Rattle.mx_rows.proofs.EntryLemmas.{get_or_of_slice_get}
 -- after some threads were cut, the rest of the work is what a cut of every thread still does
 pub record CutsOn (position : ℕ) (old now : Entries) (dropped : Counts) : Type 0 where
   pub order : InOrder now
-  pub once : IsDistinct same_thread (keys_of now)
+  pub once : AreDistinct now
+  pub needed : are_needed now ≡ true
   pub rows : (t : ThreadKey) → above position (rows_in now t) ≡ above position (rows_in old t)
   pub capacity : (t : ThreadKey) → reserved_in now t ≡ reserved_in old t
-  pub notify : min (dropped.notify + rows_left_to_cut position now) largest_count ≡ min (rows_left_to_cut position old) largest_count
-  pub highlight : min (dropped.highlight + highlights_left_to_cut position now) largest_count ≡ min (highlights_left_to_cut position old) largest_count
+  pub notify : min (dropped.notify + rows_left_to_cut position now) largest_count ≡ min
+      (rows_left_to_cut position old) largest_count
+  pub highlight : min (dropped.highlight + highlights_left_to_cut position now) largest_count ≡ min
+      (highlights_left_to_cut position old) largest_count
   pub notify_fits : dropped.notify ≤ largest_count
   pub highlight_fits : dropped.highlight ≤ largest_count
 
@@ -45,13 +48,15 @@ all_above-above : (p : ℕ) (rows : List Row) → list_all (λ row. nat_lt p row
 all_above-above p [] = refl
 all_above-above p (row ∷ rows) =
     let rest = all_above-above p rows in
-    cond_both (nat_lt p row.position) (row ∷ above p rows) (above p rows) (λ l. list_all (λ row. nat_lt p row.position) l ≡ true)
+    cond_both (nat_lt p row.position) (row ∷ above p rows) (above p rows)
+    (λ l. list_all (λ row. nat_lt p row.position) l ≡ true)
     (λ over. and_from _ _ over rest) (λ _. rest)
 
 pub above-above : (p : ℕ) (rows : List Row) → above p (above p rows) ≡ above p rows
 above-above p rows = above-all p (above p rows) (all_above-above p rows)
 
-all_above_more : (p n : ℕ) (rows : List Row) → p < n → list_all (λ row. nat_lt n row.position) rows ≡ true → list_all (λ row. nat_lt p row.position) rows ≡ true
+all_above_more : (p n : ℕ) (rows : List Row) → p < n → list_all (λ row. nat_lt n row.position) rows ≡ true
+    → list_all (λ row. nat_lt p row.position) rows ≡ true
 all_above_more p n [] below all = refl
 all_above_more p n (row ∷ rows) below all =
     let parts = and_parts (nat_lt n row.position) (list_all (λ row. nat_lt n row.position) rows) all in
@@ -59,7 +64,8 @@ all_above_more p n (row ∷ rows) below all =
     and_from _ _ (lt-ltb p row.position (omega arith)) (all_above_more p n rows below parts.1)
 
 -- rows that rise stand above a position where the first does
-pub all_above_start : (p : ℕ) (rows : List Row) → is_rising rows ≡ true → p < start_of rows → list_all (λ row. nat_lt p row.position) rows ≡ true
+pub all_above_start : (p : ℕ) (rows : List Row) → is_rising rows ≡ true → p < start_of rows
+    → list_all (λ row. nat_lt p row.position) rows ≡ true
 all_above_start p [] rising below = refl
 all_above_start p (row ∷ rows) rising below =
     let parts = and_parts (list_all (λ later. nat_lt row.position later.position) rows) (is_rising rows) rising in
@@ -68,31 +74,42 @@ all_above_start p (row ∷ rows) rising below =
 -- where the first row is at or below a position, a cut there drops something
 pub some_upto : (p : ℕ) (rows : List Row) → start_of rows ≤ p → p < 18446744073709551616 → 0 < length (upto p rows)
 some_upto p [] starts small = absurd (omega arith)
-some_upto p (row ∷ rows) starts small = subst (λ l. 0 < length l) (sym (cond-true (nat_le row.position p) (row ∷ upto p rows) (upto p rows) (le-leb _ _ starts))) (omega arith)
+some_upto p (row ∷ rows) starts small =
+    subst (λ l. 0 < length l)
+    (sym (cond-true (nat_le row.position p) (row ∷ upto p rows) (upto p rows) (le-leb _ _ starts))) (omega arith)
 
 -- ---- threads that all start above the position
 
-module _ (p : ℕ) (es : Entries) (over : (k : ℕ) (d : ThreadKey × ThreadRows) → k < length es → p < start_at (get_or es k d)) where
-  all_over : (e : ThreadKey × ThreadRows) → p < start_at e → list_all (λ row. nat_lt p row.position) e.1.rows.items ≡ true
+module _ (p : ℕ) (es : Entries)
+    (over : (k : ℕ) (d : ThreadKey × ThreadRows) → k < length es → p < start_at (get_or es k d)) where
+  all_over : (e : ThreadKey × ThreadRows) → p < start_at e
+      → list_all (λ row. nat_lt p row.position) e.1.rows.items ≡ true
   all_over e starts = all_above_start p e.1.rows.items e.1.rising starts
 
   pub above-rows_in : (t : ThreadKey) → above p (rows_in es t) ≡ rows_in es t
   above-rows_in t = by (lookup (same_thread t) es) refl
     where
-      by : (o : Option ThreadRows) → lookup (same_thread t) es ≡ o → above p (option_map_or (λ kept. kept.rows.items) o []) ≡ option_map_or (λ kept. kept.rows.items) o []
+      by : (o : Option ThreadRows) → lookup (same_thread t) es ≡ o
+          → above p (option_map_or (λ kept. kept.rows.items) o []) ≡ option_map_or (λ kept. kept.rows.items) o []
       by None is = refl
       by (Some v) is =
           let place = place_from_lookup (same_thread t) es v is in
           let e : ThreadKey × ThreadRows = (place.1, v) in
           let starts = over place.0 e (slice_get_within es place.0 e place.2) in
-          above-all p v.rows.items (all_over e (subst (λ x. p < start_at x) (get_or_of_slice_get es place.0 e place.2) starts))
+          above-all p v.rows.items
+          (all_over e (subst (λ x. p < start_at x) (get_or_of_slice_get es place.0 e place.2) starts))
 
   pub no_rows_left : rows_left_to_cut p es ≡ 0
   no_rows_left =
-      let none = sum_by-le (λ (e : ThreadKey × ThreadRows). length (upto p e.1.rows.items)) 0 es (λ k d within. let gone = ap length (upto-none p (get_or es k d).1.rows.items (all_over (get_or es k d) (over k d within))) in omega arith) in
+      let none = sum_by-le (λ (e : ThreadKey × ThreadRows). length (upto p e.1.rows.items)) 0 es
+      (λ k d within. let gone = ap length
+      (upto-none p (get_or es k d).1.rows.items (all_over (get_or es k d) (over k d within))) in omega arith) in
       omega arith
 
   pub no_highlights_left : highlights_left_to_cut p es ≡ 0
   no_highlights_left =
-      let none = sum_by-le (λ (e : ThreadKey × ThreadRows). count_by (λ (row : Row). row.highlight) (upto p e.1.rows.items)) 0 es (λ k d within. let gone = ap (count_by (λ (row : Row). row.highlight)) (upto-none p (get_or es k d).1.rows.items (all_over (get_or es k d) (over k d within))) in omega arith) in
+      let none = sum_by-le
+      (λ (e : ThreadKey × ThreadRows). count_by (λ (row : Row). row.highlight) (upto p e.1.rows.items)) 0 es
+      (λ k d within. let gone = ap (count_by (λ (row : Row). row.highlight))
+      (upto-none p (get_or es k d).1.rows.items (all_over (get_or es k d) (over k d within))) in omega arith) in
       omega arith

@@ -37,44 +37,58 @@ get_or_of_slice_get xs i x is = some_same (sym (slice_get-get_or xs i x (slice_g
 pub at_remove : {X : Type 0} (P : X → Type 0) (xs : List X) (i k : ℕ) (d : X) → i < length xs
     → (k < i → P (get_or xs k d)) → (i ≤ k → P (get_or xs (k + 1) d)) → P (get_or (remove xs i) k d)
 at_remove P xs i k d within below above =
-    ⊎_elim (λ lt. subst P (sym (get_or-remove_below xs i d k lt within)) (below lt)) (λ le. subst P (sym (get_or-remove_above xs i d k le within)) (above le)) (cases_lt k i)
+    ⊎_elim (λ lt. subst P (sym (get_or-remove_below xs i d k lt within)) (below lt))
+    (λ le. subst P (sym (get_or-remove_above xs i d k le within)) (above le)) (cases_lt k i)
 
 -- without one element, a list that doesn't fall still doesn't
-pub IsNonDecreasingBy-remove : {X : Type 0} (n : X → ℕ) (xs : List X) (i : ℕ) → i < length xs → IsNonDecreasingBy n xs → IsNonDecreasingBy n (remove xs i)
+pub IsNonDecreasingBy-remove : {X : Type 0} (n : X → ℕ) (xs : List X) (i : ℕ) → i < length xs
+    → IsNonDecreasingBy n xs → IsNonDecreasingBy n (remove xs i)
 IsNonDecreasingBy-remove n xs i within up a b d le lt =
     let shorter = length-remove xs i within in
     at_remove (λ x. n x ≤ n (get_or (remove xs i) b d)) xs i a d within
-    (λ a_below. at_remove (λ y. n (get_or xs a d) ≤ n y) xs i b d within (λ b_below. up a b d le (omega arith)) (λ b_above. up a (b + 1) d (omega arith) (omega arith)))
-    (λ a_above. at_remove (λ y. n (get_or xs (a + 1) d) ≤ n y) xs i b d within (λ b_below. absurd (omega arith)) (λ b_above. up (a + 1) (b + 1) d (omega arith) (omega arith)))
+    (λ a_below. at_remove (λ y. n (get_or xs a d) ≤ n y) xs i b d within (λ b_below. up a b d le (omega arith))
+    (λ b_above. up a (b + 1) d (omega arith) (omega arith)))
+    (λ a_above. at_remove (λ y. n (get_or xs (a + 1) d) ≤ n y) xs i b d within (λ b_below. absurd (omega arith))
+    (λ b_above. up (a + 1) (b + 1) d (omega arith) (omega arith)))
 
 -- ---- look-ups
 
 -- what is read of a thread whose entry was written or taken out, where nothing else changed
-pub read_after : {B : Type 0} (es new : Entries) (key : ThreadKey) (before left : Option ThreadRows) (at : Option ThreadRows → B) (f : B → B)
+pub read_after : {B : Type 0} (es new : Entries) (key : ThreadKey) (before left : Option ThreadRows)
+    (at : Option ThreadRows → B) (f : B → B)
     → lookup (same_thread key) es ≡ before
     → ((q : ThreadKey) → lookup (same_thread q) new ≡ cond (same_thread key q) left (lookup (same_thread q) es))
     → at left ≡ f (at before)
-    → (t : ThreadKey) → at (lookup (same_thread t) new) ≡ cond (same_thread key t) (f (at (lookup (same_thread t) es))) (at (lookup (same_thread t) es))
+    → (t : ThreadKey)
+    → at (lookup (same_thread t) new) ≡ cond (same_thread key t) (f (at (lookup (same_thread t) es)))
+    (at (lookup (same_thread t) es))
 read_after es new key before left at f found updated says t = by (same_thread key t) refl
   where
     here : same_thread key t ≡ true → lookup (same_thread t) es ≡ before
     here same = lookup_congr same_thread same_thread-equiv.congr es t key (same_thread-equiv.symm t key ∙ same) ∙ found
 
-    by : (b : Bool) → same_thread key t ≡ b → at (lookup (same_thread t) new) ≡ cond (same_thread key t) (f (at (lookup (same_thread t) es))) (at (lookup (same_thread t) es))
-    by true same = ap at (updated t) ∙ ap (λ c. at (cond c left (lookup (same_thread t) es))) same ∙ says ∙ ap (λ o. f (at o)) (sym (here same)) ∙ sym (ap (λ c. cond c (f (at (lookup (same_thread t) es))) (at (lookup (same_thread t) es))) same)
-    by false same = ap at (updated t) ∙ ap (λ c. at (cond c left (lookup (same_thread t) es))) same ∙ sym (ap (λ c. cond c (f (at (lookup (same_thread t) es))) (at (lookup (same_thread t) es))) same)
+    by : (b : Bool) → same_thread key t ≡ b
+        → at (lookup (same_thread t) new) ≡ cond (same_thread key t) (f (at (lookup (same_thread t) es)))
+        (at (lookup (same_thread t) es))
+    by true same = ap at (updated t) ∙ ap (λ c. at (cond c left (lookup (same_thread t) es))) same ∙ says
+        ∙ ap (λ o. f (at o)) (sym (here same))
+        ∙ sym (ap (λ c. cond c (f (at (lookup (same_thread t) es))) (at (lookup (same_thread t) es))) same)
+    by false same = ap at (updated t) ∙ ap (λ c. at (cond c left (lookup (same_thread t) es))) same
+        ∙ sym (ap (λ c. cond c (f (at (lookup (same_thread t) es))) (at (lookup (same_thread t) es))) same)
 
 pub cond_same : {A : Type 0} (b : Bool) (x : A) → cond b x x ≡ x
 cond_same true x = refl
 cond_same false x = refl
 
 -- the same where what is read stays
-pub read_same : {B : Type 0} (es new : Entries) (key : ThreadKey) (before left : Option ThreadRows) (at : Option ThreadRows → B)
+pub read_same : {B : Type 0} (es new : Entries) (key : ThreadKey) (before left : Option ThreadRows)
+    (at : Option ThreadRows → B)
     → lookup (same_thread key) es ≡ before
     → ((q : ThreadKey) → lookup (same_thread q) new ≡ cond (same_thread key q) left (lookup (same_thread q) es))
     → at left ≡ at before
     → (t : ThreadKey) → at (lookup (same_thread t) new) ≡ at (lookup (same_thread t) es)
-read_same es new key before left at found updated says t = read_after es new key before left at (λ b. b) found updated says t ∙ cond_same _ _
+read_same es new key before left at found updated says t =
+    read_after es new key before left at (λ b. b) found updated says t ∙ cond_same _ _
 
 pub no_rows : (rows : List Row) → has_rows rows ≡ false → rows ≡ []
 no_rows [] none = refl
@@ -84,17 +98,20 @@ no_rows (row ∷ rows) none = absurd (false≢true (sym none))
 pub spent_parts : (kept : ThreadRows) → is_spent kept ≡ true → (kept.rows.items ≡ []) × (kept.reserved ≡ false)
 spent_parts kept spent = by (has_rows kept.rows.items) kept.reserved refl refl spent
   where
-    by : (a b : Bool) → has_rows kept.rows.items ≡ a → kept.reserved ≡ b → not (a || b) ≡ true → (kept.rows.items ≡ []) × (kept.reserved ≡ false)
+    by : (a b : Bool) → has_rows kept.rows.items ≡ a → kept.reserved ≡ b → not (a || b) ≡ true
+        → (kept.rows.items ≡ []) × (kept.reserved ≡ false)
     by false false none free spent = (no_rows _ none, free)
     by false true none free spent = absurd (false≢true spent)
     by true b none free spent = absurd (false≢true spent)
 
-pub found_at : (es : Entries) (i : ℕ) (e : ThreadKey × ThreadRows) → IsDistinct same_thread (keys_of es) → slice_get es i ≡ Some e → lookup (same_thread e.0) es ≡ Some e.1
+pub found_at : (es : Entries) (i : ℕ) (e : ThreadKey × ThreadRows) → IsDistinct same_thread (keys_of es)
+    → slice_get es i ≡ Some e → lookup (same_thread e.0) es ≡ Some e.1
 found_at es i e once is = lookup_from_place same_thread-equiv es i e.0 e.1 once is
 
 -- ---- one entry written
 
-pub slice_get-set_value_at : (es : Entries) (i : ℕ) (e : ThreadKey × ThreadRows) (w : ThreadRows) → slice_get es i ≡ Some e → slice_get (set_value_at es i w) i ≡ Some (e.0, w)
+pub slice_get-set_value_at : (es : Entries) (i : ℕ) (e : ThreadKey × ThreadRows) (w : ThreadRows)
+    → slice_get es i ≡ Some e → slice_get (set_value_at es i w) i ≡ Some (e.0, w)
 slice_get-set_value_at [] i e w is = cc
 slice_get-set_value_at (x ∷ es) zero e w is = ap (λ (y : ThreadKey × ThreadRows). Some (y.0, w)) (some_same is)
 slice_get-set_value_at (x ∷ es) (suc i) e w is = slice_get-set_value_at es i e w is
@@ -105,7 +122,8 @@ remove-set_value_at (x ∷ es) zero w = refl
 remove-set_value_at (x ∷ es) (suc i) w = ap (λ l. x ∷ l) (remove-set_value_at es i w)
 
 -- what is read of each entry stays where it is the same of the one that is written
-pub map-set_value_at : {A : Type 0} (f : ThreadKey × ThreadRows → A) (es : Entries) (i : ℕ) (e : ThreadKey × ThreadRows) (w : ThreadRows)
+pub map-set_value_at : {A : Type 0} (f : ThreadKey × ThreadRows → A) (es : Entries) (i : ℕ)
+    (e : ThreadKey × ThreadRows) (w : ThreadRows)
     → slice_get es i ≡ Some e → f (e.0, w) ≡ f e → map f (set_value_at es i w) ≡ map f es
 map-set_value_at f [] i e w is same = refl
 map-set_value_at f (x ∷ es) zero e w is same =
@@ -119,14 +137,16 @@ map-set_value_at f (x ∷ es) (suc i) e w is same = ap (λ l. f x ∷ l) (map-se
 pub InOrder-same_starts : (es new : Entries) → map start_at new ≡ map start_at es → InOrder es → InOrder new
 InOrder-same_starts es new same up i j d le lt =
     let long : length new ≡ length es = sym (length-map new start_at) ∙ ap length same ∙ length-map es start_at in
-    let at : (k : ℕ) → start_at (get_or new k d) ≡ start_at (get_or es k d) = λ k. sym (get_or-map start_at new k d) ∙ ap (λ l. get_or l k (start_at d)) same ∙ get_or-map start_at es k d in
+    let at : (k : ℕ) → start_at (get_or new k d) ≡ start_at (get_or es k d) = λ k. sym (get_or-map start_at new k d)
+    ∙ ap (λ l. get_or l k (start_at d)) same ∙ get_or-map start_at es k d in
     let before = up i j d le (omega arith) in
     let at_i = at i in
     let at_j = at j in
     omega arith
 
 -- where a thread that changed is taken out, or stands at its place, the order is kept
-pub InOrder-settled : (es : Entries) (i to start : ℕ) (e : ThreadKey × ThreadRows) (b : Bool) → i < length es → InOrder es → IsPlace es i start to → start_at e ≡ start
+pub InOrder-settled : (es : Entries) (i to start : ℕ) (e : ThreadKey × ThreadRows) (b : Bool) → i < length es
+    → InOrder es → IsPlace es i start to → start_at e ≡ start
     → InOrder (cond b (remove es i) (insert (remove es i) to e))
 InOrder-settled es i to start e b within order place starts =
     let left = IsNonDecreasingBy-remove start_at es i within order in
@@ -137,18 +157,23 @@ InOrder-settled es i to start e b within order place starts =
     (λ k d from below. let h = place.after k d from below in omega arith))
 
 -- what is summed over the threads falls by what was summed of the one that changed
-pub sum_by-settled : (f : ThreadKey × ThreadRows → ℕ) (es : Entries) (i to : ℕ) (old new : ThreadKey × ThreadRows) (b : Bool) → slice_get es i ≡ Some old → f new ≡ 0
+pub sum_by-settled : (f : ThreadKey × ThreadRows → ℕ) (es : Entries) (i to : ℕ) (old new : ThreadKey × ThreadRows)
+    (b : Bool) → slice_get es i ≡ Some old → f new ≡ 0
     → sum_by f (cond b (remove es i) (insert (remove es i) to new)) + f old ≡ sum_by f es
 sum_by-settled f es i to old new b is none =
-    let gone : sum_by f (remove es i) + f (get_or es i old) ≡ sum_by f es = sum_by-remove f es i old (slice_get_within es i old is) in
+    let gone : sum_by f (remove es i) + f (get_or es i old) ≡ sum_by f es
+    = sum_by-remove f es i old (slice_get_within es i old is) in
     let here : get_or es i old ≡ old = get_or_of_slice_get es i old is in
-    let kept : sum_by f (remove es i) + f old ≡ sum_by f es = ap (λ x. sum_by f (remove es i) + f x) (sym here) ∙ gone in
+    let kept : sum_by f (remove es i) + f old ≡ sum_by f es = ap (λ x. sum_by f (remove es i) + f x) (sym here)
+    ∙ gone in
     cond_both b (remove es i) (insert (remove es i) to new) (λ l. sum_by f l + f old ≡ sum_by f es) (λ _. kept)
     (λ _. let more = sum_by-insert f (remove es i) to new in omega arith)
 
 -- the threads after one was written and then settled
-pub settled : (es written new : Entries) (i to : ℕ) (e : ThreadKey × ThreadRows) (w : ThreadRows) → slice_get es i ≡ Some e → written ≡ set_value_at es i w
-    → ((x : ThreadKey × ThreadRows) → slice_get written i ≡ Some x → new ≡ cond (is_spent x.1) (remove written i) (insert (remove written i) to x))
+pub settled : (es written new : Entries) (i to : ℕ) (e : ThreadKey × ThreadRows) (w : ThreadRows)
+    → slice_get es i ≡ Some e → written ≡ set_value_at es i w
+    → ((x : ThreadKey × ThreadRows) → slice_get written i ≡ Some x
+    → new ≡ cond (is_spent x.1) (remove written i) (insert (remove written i) to x))
     → new ≡ cond (is_spent w) (remove es i) (insert (remove es i) to (e.0, w))
 settled es written new i to e w is write says =
     says (e.0, w) (ap (λ l. slice_get l i) write ∙ slice_get-set_value_at es i e w is)
@@ -163,16 +188,21 @@ entry_found es t i is =
     let found = position-Some (same_thread t) (keys_of es) i t (sym is) in
     let long = length-keys_of es in
     let here = some_at es i (omega arith) in
-    let key : slice_get (keys_of es) i ≡ Some here.0.0 = slice_get-map (λ (e : ThreadKey × ThreadRows). e.0) es i ∙ ap (option_map (λ (e : ThreadKey × ThreadRows). e.0)) here.1 in
+    let key : slice_get (keys_of es) i ≡ Some here.0.0 = slice_get-map (λ (e : ThreadKey × ThreadRows). e.0) es i
+    ∙ ap (option_map (λ (e : ThreadKey × ThreadRows). e.0)) here.1 in
     (here.0, here.1, ap (same_thread t) (sym (get_or_from_slice_get (keys_of es) i here.0.0 t key)) ∙ found.1)
 
 -- what is said of the thread of an entry, said of the thread that it was found by
-pub by_found : {A : Type 0} (t key q : ThreadKey) (x y : A) → same_thread t key ≡ true → cond (same_thread key q) x y ≡ cond (same_thread t q) x y
+pub by_found : {A : Type 0} (t key q : ThreadKey) (x y : A) → same_thread t key ≡ true
+    → cond (same_thread key q) x y ≡ cond (same_thread t q) x y
 by_found t key q x y same = ap (λ b. cond b x y) (sym (same_thread-equiv.congr t key q same))
 
 -- the index of an entry's value
-pub value_at : (es : Entries) (i : ℕ) (e : ThreadKey × ThreadRows) (v : ThreadRows) → slice_get es i ≡ Some e → slice_get (map (λ x. x.1) es) i ≡ Some v → v ≡ e.1
-value_at es i e v is value = some_same (sym value ∙ slice_get-map (λ (x : ThreadKey × ThreadRows). x.1) es i ∙ ap (option_map (λ (x : ThreadKey × ThreadRows). x.1)) is)
+pub value_at : (es : Entries) (i : ℕ) (e : ThreadKey × ThreadRows) (v : ThreadRows) → slice_get es i ≡ Some e
+    → slice_get (map (λ x. x.1) es) i ≡ Some v → v ≡ e.1
+value_at es i e v is value =
+    some_same (sym value ∙ slice_get-map (λ (x : ThreadKey × ThreadRows). x.1) es i
+    ∙ ap (option_map (λ (x : ThreadKey × ThreadRows). x.1)) is)
 
 pub or_where : (b k s : Bool) → cond s (b || k) b ≡ (b || (k && s))
 or_where true k true = refl
@@ -183,7 +213,9 @@ or_where false false true = refl
 or_where false false false = refl
 
 -- the rows of the thread that an entry was found by
-pub rows_found : (es : Entries) (t : ThreadKey) (i : ℕ) (e : ThreadKey × ThreadRows) → IsDistinct same_thread (keys_of es) → slice_get es i ≡ Some e → same_thread t e.0 ≡ true
+pub rows_found : (es : Entries) (t : ThreadKey) (i : ℕ) (e : ThreadKey × ThreadRows)
+    → IsDistinct same_thread (keys_of es) → slice_get es i ≡ Some e → same_thread t e.0 ≡ true
     → e.1.rows.items ≡ rows_in es t
 rows_found es t i e once is same =
-    sym (ap (λ o. option_map_or (λ (kept : ThreadRows). kept.rows.items) o []) (lookup_congr same_thread same_thread-equiv.congr es t e.0 same ∙ found_at es i e once is))
+    sym (ap (λ o. option_map_or (λ (kept : ThreadRows). kept.rows.items) o [])
+    (lookup_congr same_thread same_thread-equiv.congr es t e.0 same ∙ found_at es i e once is))

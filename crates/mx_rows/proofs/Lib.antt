@@ -1,4 +1,5 @@
 pub mod RowLemmas
 pub mod EntryLemmas
+pub mod NeededLemmas
 pub mod CutLemmas
 pub mod PlainLemmas

@@ -1,4 +1,4 @@
--- Rows of unread events, what counts and cuts of a list of them are, and in which order threads are told: ours.
+-- Rows of unread events: counts and cuts of a list of them, and the order of threads. Ours.
 use Rattle.std.specs.Prelude.{ℕ, ◌-◌, ◌^◌, min, nat_lt, nat_le, Bool, true, false, ◌&&◌, List, [], ◌∷◌, length, map, filter, count_by}
 use Rattle.std.specs.List.{list_all}
 use Rattle.mx_rows.specs.declared.counts.Counts.{Counts}
@@ -23,12 +23,16 @@ largest_count = 2 ^ 64 - 1
 
 -- counts that stand still at the largest number
 abbrev pub saturated : Counts → Counts
-saturated counts = record { notify = min counts.notify largest_count; highlight = min counts.highlight largest_count }
+saturated counts = record {
+  notify = min counts.notify largest_count;
+  highlight = min counts.highlight largest_count;
+}
 
 -- each row stands below all that come after it
 abbrev pub is_rising : List Row → Bool
 is_rising [] = true
-is_rising (row ∷ rows) = list_all (λ later. nat_lt row.position later.position) rows && is_rising rows
+is_rising (row ∷ rows) =
+    list_all (λ later. nat_lt row.position later.position) rows && is_rising rows
 
 -- each position fits a u64
 abbrev pub are_in_range : List Row → Bool

@@ -43,7 +43,11 @@ same_thread-congr (Root a) (Root b) Main same = refl
 same_thread-congr (Root a) (Root b) (Root c) same = nat_list_eq_equiv.congr a b c same
 
 pub same_thread-equiv : IsEquivalence same_thread
-same_thread-equiv = record { refl = same_thread-itself; symm = same_thread-symm; congr = same_thread-congr }
+same_thread-equiv = record {
+  refl = same_thread-itself;
+  symm = same_thread-symm;
+  congr = same_thread-congr;
+}
 
 -- ---- what is hashed of a key
 

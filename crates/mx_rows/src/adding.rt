@@ -1,10 +1,9 @@
 ghost use Rattle.std.specs.Prelude.{◌≡◌, ◌<◌, ◌&&◌, ◌||◌, true, false, if◌then◌else◌, [], ◌∷◌, ◌++◌, is_ok, length, All, slice_get, Some, None};
-ghost use Rattle.std.specs.List.{IsDistinct};
-ghost use Rattle.std.specs.Map.{keys_of, lookup};
+ghost use Rattle.std.specs.Map.{lookup};
 ghost use Rattle.indexmap.specs.IndexMap.{set_value_at};
 ghost use Rattle.mx_rows.specs.declared.thread_key.ThreadKey.{ThreadKey};
 ghost use Rattle.mx_rows.specs.declared.thread_rows.ThreadRows.{ThreadRows};
-ghost use Rattle.mx_rows.specs.Plain.{InOrder, reserved_in, rows_in};
+ghost use Rattle.mx_rows.specs.Plain.{are_needed, AreDistinct, Entry, InOrder, reserved_in, rows_in};
 ghost use Rattle.mx_rows.specs.Threads.{same_thread};
 
 use crate::row::Row;
@@ -18,10 +17,12 @@ use std::alloc::Global;
 pub fn reserve_at(threads: &mut Threads, index: usize) -> Result<(), OutOfMemory>
     requires order { InOrder threads.old.entries }
     requires within { index < length threads.old.entries }
+    requires needed { are_needed threads.old.entries ≡ true }
+    ensures needed { are_needed threads.new.entries ≡ true }
     ensures order { InOrder threads.new.entries }
-    ensures once { IsDistinct same_thread (keys_of threads.new.entries) }
+    ensures once { AreDistinct threads.new.entries }
     ensures rows { (t : ThreadKey) → rows_in threads.new.entries t ≡ rows_in threads.old.entries t }
-    ensures capacity { (e : ThreadKey × ThreadRows) (t : ThreadKey) → slice_get threads.old.entries index ≡ Some e
+    ensures capacity { (e : Entry) (t : ThreadKey) → slice_get threads.old.entries index ≡ Some e
         → reserved_in threads.new.entries t
         ≡ (reserved_in threads.old.entries t || (is_ok result && same_thread e.0 t)) }
 {
@@ -36,10 +37,12 @@ pub fn keep_reserved(
     thread: &ThreadKey,
 ) -> Result<(), OutOfMemory>
     requires order { InOrder threads.old.entries }
-    requires once { IsDistinct same_thread (keys_of threads.old.entries) }
+    requires once { AreDistinct threads.old.entries }
     requires absent { lookup (same_thread thread.now) threads.old.entries ≡ None }
+    requires needed { are_needed threads.old.entries ≡ true }
+    ensures needed { are_needed threads.new.entries ≡ true }
     ensures order { InOrder threads.new.entries }
-    ensures once { IsDistinct same_thread (keys_of threads.new.entries) }
+    ensures once { AreDistinct threads.new.entries }
     ensures rows { (t : ThreadKey) → rows_in threads.new.entries t ≡ rows_in threads.old.entries t }
     ensures capacity { (t : ThreadKey) → reserved_in threads.new.entries t
         ≡ (reserved_in threads.old.entries t || (is_ok result && same_thread thread.now t)) }
@@ -49,21 +52,23 @@ pub fn keep_reserved(
     Ok(())
 }
 
-/// Appends a row to the thread at the index, which then stands where its first row puts it, and uses its
-/// capacity up.
+/// Appends a row to the thread at the index, and uses its capacity up. The thread then stands where
+/// its first row puts it.
 pub fn push_at(threads: &mut Threads, index: usize, row: Row)
     requires order { InOrder threads.old.entries }
     requires within { index < length threads.old.entries }
-    requires capacity { (e : ThreadKey × ThreadRows) → slice_get threads.old.entries index ≡ Some e
+    requires capacity { (e : Entry) → slice_get threads.old.entries index ≡ Some e
         → e.1.reserved ≡ true }
-    requires above { (e : ThreadKey × ThreadRows) → slice_get threads.old.entries index ≡ Some e
+    requires above { (e : Entry) → slice_get threads.old.entries index ≡ Some e
         → All (λ before. before.position < row.position) e.1.rows.items }
+    requires needed { are_needed threads.old.entries ≡ true }
+    ensures needed { are_needed threads.new.entries ≡ true }
     ensures order { InOrder threads.new.entries }
-    ensures once { IsDistinct same_thread (keys_of threads.new.entries) }
-    ensures rows { (e : ThreadKey × ThreadRows) (t : ThreadKey) → slice_get threads.old.entries index ≡ Some e
+    ensures once { AreDistinct threads.new.entries }
+    ensures rows { (e : Entry) (t : ThreadKey) → slice_get threads.old.entries index ≡ Some e
         → rows_in threads.new.entries t ≡ (if same_thread e.0 t
         then rows_in threads.old.entries t ++ row ∷ [] else rows_in threads.old.entries t) }
-    ensures capacity { (e : ThreadKey × ThreadRows) (t : ThreadKey) → slice_get threads.old.entries index ≡ Some e
+    ensures capacity { (e : Entry) (t : ThreadKey) → slice_get threads.old.entries index ≡ Some e
         → reserved_in threads.new.entries t
         ≡ (if same_thread e.0 t then false else reserved_in threads.old.entries t) }
 {
@@ -79,19 +84,19 @@ pub fn push_at(threads: &mut Threads, index: usize, row: Row)
 /// Appends a row to the thread at the index.
 fn push_in_place(threads: &mut Threads, index: usize, row: Row)
     requires within { index < length threads.old.entries }
-    requires capacity { (e : ThreadKey × ThreadRows) → slice_get threads.old.entries index ≡ Some e
+    requires capacity { (e : Entry) → slice_get threads.old.entries index ≡ Some e
         → e.1.reserved ≡ true }
-    requires above { (e : ThreadKey × ThreadRows) → slice_get threads.old.entries index ≡ Some e
+    requires above { (e : Entry) → slice_get threads.old.entries index ≡ Some e
         → All (λ before. before.position < row.position) e.1.rows.items }
     ensures long { length threads.new.entries ≡ length threads.old.entries }
-    ensures entries { (e : ThreadKey × ThreadRows) → slice_get threads.old.entries index ≡ Some e
+    ensures entries { (e : Entry) → slice_get threads.old.entries index ≡ Some e
         → (kept : ThreadRows) × (threads.new.entries ≡ set_value_at threads.old.entries index kept)
         × (kept.rows.items ≡ e.1.rows.items ++ row ∷ []) }
-    ensures once { IsDistinct same_thread (keys_of threads.new.entries) }
-    ensures rows { (e : ThreadKey × ThreadRows) (t : ThreadKey) → slice_get threads.old.entries index ≡ Some e
+    ensures once { AreDistinct threads.new.entries }
+    ensures rows { (e : Entry) (t : ThreadKey) → slice_get threads.old.entries index ≡ Some e
         → rows_in threads.new.entries t ≡ (if same_thread e.0 t
         then rows_in threads.old.entries t ++ row ∷ [] else rows_in threads.old.entries t) }
-    ensures capacity { (e : ThreadKey × ThreadRows) (t : ThreadKey) → slice_get threads.old.entries index ≡ Some e
+    ensures capacity { (e : Entry) (t : ThreadKey) → slice_get threads.old.entries index ≡ Some e
         → reserved_in threads.new.entries t
         ≡ (if same_thread e.0 t then false else reserved_in threads.old.entries t) }
 {

@@ -1,10 +1,8 @@
-ghost use Rattle.std.specs.Prelude.{◌≡◌, ℕ, ◌+◌, ◌<◌, ◌≤◌, min, if◌then◌else◌, List, [], length, insert, remove, slice_get, slice_index_or, Some, IfSome, IfNone};
-ghost use Rattle.std.specs.List.{IsDistinct};
-ghost use Rattle.std.specs.Map.{keys_of};
+ghost use Rattle.std.specs.Prelude.{◌≡◌, true, ℕ, ◌+◌, ◌<◌, ◌≤◌, min, if◌then◌else◌, List, [], length, insert, remove, slice_get, slice_index_or, Some, IfSome, IfNone};
 ghost use Rattle.indexmap.specs.IndexMap.{set_value_at};
 ghost use Rattle.mx_rows.specs.declared.thread_key.ThreadKey.{ThreadKey};
 ghost use Rattle.mx_rows.specs.declared.thread_rows.ThreadRows.{ThreadRows};
-ghost use Rattle.mx_rows.specs.Plain.{highlights_left_to_cut, InOrder, is_spent, IsPlace, reserved_in, rows_in, rows_left_to_cut, start_at};
+ghost use Rattle.mx_rows.specs.Plain.{are_needed, AreDistinct, Entry, highlights_left_to_cut, InOrder, is_spent, IsPlace, reserved_in, rows_in, rows_left_to_cut, start_at};
 ghost use Rattle.mx_rows.specs.Rows.{above, counts_in, largest_count, start_of, upto};
 ghost use Rattle.mx_rows.specs.Threads.{same_thread};
 
@@ -15,35 +13,37 @@ use crate::threads::{Threads, place_of, settle, threads_upto};
 fn cut_in_place(threads: &mut Threads, index: usize, position: u64) -> Counts
     requires { index < length threads.old.entries }
     ensures long { length threads.new.entries ≡ length threads.old.entries }
-    ensures entries { (e : ThreadKey × ThreadRows) → slice_get threads.old.entries index ≡ Some e
+    ensures entries { (e : Entry) → slice_get threads.old.entries index ≡ Some e
         → (cut : ThreadRows) × (threads.new.entries ≡ set_value_at threads.old.entries index cut)
         × (cut.rows.items ≡ above position e.1.rows.items) × (cut.reserved ≡ e.1.reserved) }
-    ensures once { IsDistinct same_thread (keys_of threads.new.entries) }
-    ensures rows { (e : ThreadKey × ThreadRows) (t : ThreadKey) → slice_get threads.old.entries index ≡ Some e
+    ensures once { AreDistinct threads.new.entries }
+    ensures rows { (e : Entry) (t : ThreadKey) → slice_get threads.old.entries index ≡ Some e
         → rows_in threads.new.entries t ≡ (if same_thread e.0 t
         then above position (rows_in threads.old.entries t) else rows_in threads.old.entries t) }
     ensures capacity { (t : ThreadKey)
         → reserved_in threads.new.entries t ≡ reserved_in threads.old.entries t }
-    ensures dropped { (e : ThreadKey × ThreadRows) → slice_get threads.old.entries index ≡ Some e
+    ensures dropped { (e : Entry) → slice_get threads.old.entries index ≡ Some e
         → result ≡ counts_in (upto position e.1.rows.items) }
 {
     let (_, kept) = threads.pair_mut(index);
     kept.cut(position)
 }
 
-/// Cuts the thread at the index. It then stands where its first row puts it, or is taken out where nothing
-/// is left of it.
+/// Cuts the thread at the index. It then stands where its first row puts it, or is taken out where
+/// nothing is left of it.
 pub fn cut_at(threads: &mut Threads, index: usize, position: u64) -> Counts
     requires order { InOrder threads.old.entries }
     requires within { index < length threads.old.entries }
+    requires needed { are_needed threads.old.entries ≡ true }
+    ensures needed { are_needed threads.new.entries ≡ true }
     ensures order { InOrder threads.new.entries }
-    ensures once { IsDistinct same_thread (keys_of threads.new.entries) }
-    ensures rows { (e : ThreadKey × ThreadRows) (t : ThreadKey) → slice_get threads.old.entries index ≡ Some e
+    ensures once { AreDistinct threads.new.entries }
+    ensures rows { (e : Entry) (t : ThreadKey) → slice_get threads.old.entries index ≡ Some e
         → rows_in threads.new.entries t ≡ (if same_thread e.0 t
         then above position (rows_in threads.old.entries t) else rows_in threads.old.entries t) }
     ensures capacity { (t : ThreadKey)
         → reserved_in threads.new.entries t ≡ reserved_in threads.old.entries t }
-    ensures dropped { (e : ThreadKey × ThreadRows) → slice_get threads.old.entries index ≡ Some e
+    ensures dropped { (e : Entry) → slice_get threads.old.entries index ≡ Some e
         → result ≡ counts_in (upto position e.1.rows.items) }
     ensures fewer_rows { rows_left_to_cut position threads.new.entries + result.notify
         ≡ rows_left_to_cut position threads.old.entries }
@@ -56,12 +56,15 @@ pub fn cut_at(threads: &mut Threads, index: usize, position: u64) -> Counts
     dropped
 }
 
-/// Cuts every thread, and answers what all cuts dropped; a count that would pass the end of a `u64` stays there.
+/// Cuts every thread, and answers what all cuts dropped; a count that would pass the end of a `u64`
+/// stays there.
 pub fn cut_every(threads: &mut Threads, position: u64) -> Counts
     requires order { InOrder threads.old.entries }
-    requires once { IsDistinct same_thread (keys_of threads.old.entries) }
+    requires once { AreDistinct threads.old.entries }
+    requires needed { are_needed threads.old.entries ≡ true }
+    ensures needed { are_needed threads.new.entries ≡ true }
     ensures order { InOrder threads.new.entries }
-    ensures once { IsDistinct same_thread (keys_of threads.new.entries) }
+    ensures once { AreDistinct threads.new.entries }
     ensures rows { (t : ThreadKey)
         → rows_in threads.new.entries t ≡ above position (rows_in threads.old.entries t) }
     ensures capacity { (t : ThreadKey)
@@ -85,9 +88,9 @@ pub fn cut_every(threads: &mut Threads, position: u64) -> Counts
 fn last_upto(threads: &Threads, position: u64) -> Option<usize>
     requires { InOrder threads.now.entries }
     ensures within { IfSome result (λ index. index < length threads.now.entries) }
-    ensures some { IfSome result (λ index. (d : ThreadKey × ThreadRows)
+    ensures some { IfSome result (λ index. (d : Entry)
         → start_at (slice_index_or threads.now.entries index d) ≤ position) }
-    ensures none { IfNone result ((k : ℕ) (d : ThreadKey × ThreadRows) → k < length threads.now.entries
+    ensures none { IfNone result ((k : ℕ) (d : Entry) → k < length threads.now.entries
         → position < start_at (slice_index_or threads.now.entries k d)) }
 {
     match threads_upto(threads, u128::from(position)) {

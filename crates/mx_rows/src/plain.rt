@@ -1,10 +1,8 @@
-ghost use Rattle.std.specs.List.{IsDistinct};
-ghost use Rattle.std.specs.Map.{keys_of};
-ghost use Rattle.std.proofs.lemmas.Map.Keys.{IsDistinct-prop};
 ghost use Rattle.std.specs.Prelude.{◌≡◌, true};
-ghost use Rattle.mx_rows.specs.Plain.{InOrder, rows_in};
+ghost use Rattle.std.specs.Map.{keys_of};
+ghost use Rattle.mx_rows.specs.Plain.{are_needed, AreDistinct, InOrder, rows_in};
+ghost use Rattle.mx_rows.specs.PlainLaws.{AreDistinct-prop};
 ghost use Rattle.mx_rows.specs.Rows.{are_in_order, with_rows};
-ghost use Rattle.mx_rows.specs.Threads.{same_thread};
 
 use crate::adding::{keep_reserved, push_at, reserve_at};
 use crate::counts::{Counts, Sizes};
@@ -20,14 +18,18 @@ use std::alloc::Global;
 
 /// Rows in one list a thread, all of which count as packed.
 ///
-/// A thread is found by its key in one look-up, and the threads are kept in the order of their first rows. So
-/// `thread_at` is one look-up. A `cut` costs the rows of its thread and a move past the threads that then begin
-/// before it; a `cut_all` does so once for each thread that begins at or below its position. A thread without
-/// rows and without capacity isn't kept.
+/// A thread is found by its key in one look-up, and the threads are kept in the order of their
+/// first rows. So `push` is one look-up, whatever the number of threads, `counts` besides walks over
+/// the thread's rows, and `thread_at` reads one place. A `cut` walks over the rows of its thread, and
+/// then moves the thread past those that now start before it, or shifts those after it where nothing
+/// is left of it. A `cut_all` does so for each thread that starts at or below its position, from the
+/// last of them on, so that threads that all go cost no shift. A thread without rows and without
+/// capacity isn't kept.
 #[derive(Drop)]
 pub struct PlainRows {
     threads: Threads,
-    ghost once: { IsDistinct same_thread (keys_of threads.entries) } by { IsDistinct-prop same_thread (keys_of threads.entries) },
+    ghost once: { AreDistinct threads.entries } by { AreDistinct-prop threads.entries },
+    ghost needed: { are_needed threads.entries ≡ true },
     ghost order: { InOrder threads.entries },
     ghost with_rows_in_order: { are_in_order (rows_in threads.entries)
         (with_rows (rows_in threads.entries) (keys_of threads.entries)) ≡ true },
@@ -39,7 +41,7 @@ impl Rows for PlainRows {
     ghost use Rattle.mx_rows.specs.Plain.{reserved_in, rows_in};
     ghost use Rattle.std.proofs.Common.{sym};
     ghost use Rattle.std.proofs.lemmas.List.{append-nil};
-    ghost use Rattle.mx_rows.specs.PlainLaws.{covers-entries, is_rising-rows_in};
+    ghost use Rattle.mx_rows.specs.PlainLaws.{is_rising-rows_in, kept-entries};
 
     ghost list = { λ rows. rows_in rows.threads.entries };
 
@@ -126,7 +128,7 @@ impl Rows for PlainRows {
         Ok(0)
     }
 
-    ghost covers = { λ rows t. covers-entries rows.threads.entries t };
+    ghost kept = { λ rows t. kept-entries rows.threads.entries t rows.needed };
 
     ghost once = { λ rows. rows.once };
 

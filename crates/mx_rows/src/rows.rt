@@ -4,7 +4,7 @@ ghost use Rattle.std.specs.Option.{option_copied};
 ghost use Rattle.std.specs.Result.{result_unwrap_or};
 ghost use Rattle.mx_rows.specs.declared.row.Row.{Row};
 ghost use Rattle.mx_rows.specs.declared.thread_key.ThreadKey.{ThreadKey};
-ghost use Rattle.mx_rows.specs.Rows.{above, are_in_order, counts_in, is_rising, saturated, upto, with_rows};
+ghost use Rattle.mx_rows.specs.Rows.{above, are_in_order, counts_in, has_rows, is_rising, saturated, upto, with_rows};
 ghost use Rattle.mx_rows.specs.Threads.{has_thread, same_thread};
 
 use crate::counts::{Counts, Sizes};
@@ -15,8 +15,8 @@ use std::alloc::Global;
 
 /// The unread rows of one user in one room: for each thread a list of rows whose positions rise.
 ///
-/// Rows come hot. `rotate` packs them, which changes no list. `cut`, `cut_all`, `counts`, `push` and
-/// what only reads take no memory.
+/// Rows come hot. `rotate` packs them, which changes no list. `push`, `cut`, `cut_all`, `counts`,
+/// `thread_at`, `sizes` and `ripe` take no memory.
 pub trait Rows: Drop {
     /// The rows of each thread, oldest first.
     ghost list: { Self → ThreadKey → List Row };
@@ -27,8 +27,8 @@ pub trait Rows: Drop {
     /// Whether the thread has capacity for one row more.
     ghost has_capacity: { Self → ThreadKey → Bool };
 
-    /// The threads that are kept, each once: among them are all that have rows or capacity, and those
-    /// that have rows stand in the order of their first rows.
+    /// The threads that are kept, each once: exactly those that have rows or capacity. Those that
+    /// have rows stand in the order of their first rows.
     ghost threads: { Self → List ThreadKey };
 
     /// No rows in any thread.
@@ -66,13 +66,14 @@ pub trait Rows: Drop {
     /// Drops the thread's rows at or below the position, and answers what it dropped.
     fn cut(&mut self, thread: &ThreadKey, position: u64) -> Counts
         ensures lists { (t : ThreadKey) → list self.new t
-            ≡ (if same_thread thread.now t then above position (list self.old t) else list self.old t) }
+            ≡ (if same_thread thread.now t
+            then above position (list self.old t) else list self.old t) }
         ensures dropped { result ≡ counts_in (upto position (list self.old thread.now)) }
         ensures cool { (t : ThreadKey) → length (hot self.new t) ≤ length (hot self.old t) }
         ensures capacity { (t : ThreadKey) → has_capacity self.new t ≡ has_capacity self.old t };
 
-    /// Drops the rows at or below the position in every thread, and answers what it dropped; a count
-    /// that would pass the end of a `u64` stays there.
+    /// Drops the rows at or below the position in every thread, and answers what it dropped; a
+    /// count that would pass the end of a `u64` stays there.
     fn cut_all(&mut self, position: u64) -> Counts
         ensures lists { (t : ThreadKey) → list self.new t ≡ above position (list self.old t) }
         ensures dropped { result ≡ saturated (counts_in (upto position
@@ -84,10 +85,11 @@ pub trait Rows: Drop {
     fn counts(&self, thread: &ThreadKey) -> Counts
         ensures { result ≡ counts_in (list self.now thread.now) };
 
-    /// The threads that have rows, in rising order of the position of the first row that each has left;
-    /// `k` counts from 0, and `None` comes exactly past the last.
+    /// The threads that have rows, in rising order of the position of the first row that each has
+    /// left; `k` counts from 0, and `None` comes exactly past the last.
     fn thread_at(&self, k: usize) -> Option<&ThreadKey>
-        ensures { option_copied result ≡ slice_get (with_rows (list self.now) (threads self.now)) k };
+        ensures { option_copied result
+            ≡ slice_get (with_rows (list self.now) (threads self.now)) k };
 
     /// Appends the thread's rows to `out`, which is as it was after an error.
     ///
@@ -108,8 +110,8 @@ pub trait Rows: Drop {
         ensures some { IfSome result (λ t. 256 ≤ length (hot self.now t.now)) }
         ensures none { IfNone result ((t : ThreadKey) → length (hot self.now t) < 256) };
 
-    /// Packs the first 256 hot rows of the thread that are at or below `last`, and answers 256, or 0
-    /// exactly where there are fewer.
+    /// Packs the first 256 hot rows of the thread that are at or below `last`, and answers 256, or
+    /// 0 exactly where there are fewer.
     ///
     /// # Errors
     ///
@@ -122,8 +124,8 @@ pub trait Rows: Drop {
             then drop (result_unwrap_or result 0) (hot self.old t) else hot self.old t) }
         ensures capacity { (t : ThreadKey) → has_capacity self.new t ≡ has_capacity self.old t };
 
-    ghost covers: { (rows : Self) (t : ThreadKey) → has_thread t (threads rows) ≡ false
-        → (list rows t ≡ []) × (has_capacity rows t ≡ false) };
+    ghost kept: { (rows : Self) (t : ThreadKey) → has_thread t (threads rows)
+        ≡ (has_rows (list rows t) || has_capacity rows t) };
 
     ghost once: { (rows : Self) → IsDistinct same_thread (threads rows) };
 

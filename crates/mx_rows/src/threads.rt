@@ -1,10 +1,8 @@
 ghost use Rattle.std.specs.Prelude.{◌≡◌, ℕ, ◌+◌, ◌<◌, ◌≤◌, if◌then◌else◌, List, [], length, insert, remove, slice_get, slice_index_or, Some};
-ghost use Rattle.std.specs.List.{IsDistinct};
-ghost use Rattle.std.specs.Map.{keys_of};
 ghost use Rattle.indexmap.specs.IndexMap.{set_value_at};
 ghost use Rattle.mx_rows.specs.declared.thread_key.ThreadKey.{ThreadKey};
 ghost use Rattle.mx_rows.specs.declared.thread_rows.ThreadRows.{ThreadRows};
-ghost use Rattle.mx_rows.specs.Plain.{highlights_left_to_cut, InOrder, is_spent, IsPlace, reserved_in, rows_in, rows_left_to_cut, start_at};
+ghost use Rattle.mx_rows.specs.Plain.{are_needed, AreDistinct, Entry, highlights_left_to_cut, InOrder, is_spent, IsPlace, reserved_in, rows_in, rows_left_to_cut, start_at};
 ghost use Rattle.mx_rows.specs.Rows.{above, counts_in, start_of, upto};
 ghost use Rattle.mx_rows.specs.Threads.{same_thread};
 
@@ -30,9 +28,9 @@ pub fn rows_of<'a>(threads: &'a Threads, thread: &ThreadKey) -> &'a [Row]
 pub fn threads_upto(threads: &Threads, start: u128) -> usize
     requires { InOrder threads.now.entries }
     ensures within { result ≤ length threads.now.entries }
-    ensures before { (k : ℕ) (d : ThreadKey × ThreadRows) → k < result
+    ensures before { (k : ℕ) (d : Entry) → k < result
         → start_at (slice_index_or threads.now.entries k d) ≤ start }
-    ensures after { (k : ℕ) (d : ThreadKey × ThreadRows) → result ≤ k → k < length threads.now.entries
+    ensures after { (k : ℕ) (d : Entry) → result ≤ k → k < length threads.now.entries
         → start < start_at (slice_index_or threads.now.entries k d) }
 {
     threads.partition_point(|_key, kept| kept.start() <= start)
@@ -52,11 +50,11 @@ pub fn place_of(threads: &Threads, index: usize, start: u128) -> usize
 pub fn settle(threads: &mut Threads, index: usize, to: usize)
     requires from { index < length threads.old.entries }
     requires to { to < length threads.old.entries }
-    requires once { IsDistinct same_thread (keys_of threads.old.entries) }
-    ensures entries { (e : ThreadKey × ThreadRows) → slice_get threads.old.entries index ≡ Some e
+    requires once { AreDistinct threads.old.entries }
+    ensures entries { (e : Entry) → slice_get threads.old.entries index ≡ Some e
         → threads.new.entries ≡ (if is_spent e.1 then remove threads.old.entries index
         else insert (remove threads.old.entries index) to e) }
-    ensures once { IsDistinct same_thread (keys_of threads.new.entries) }
+    ensures once { AreDistinct threads.new.entries }
     ensures rows { (t : ThreadKey) → rows_in threads.new.entries t ≡ rows_in threads.old.entries t }
     ensures capacity { (t : ThreadKey)
         → reserved_in threads.new.entries t ≡ reserved_in threads.old.entries t }

@@ -1,4 +1,5 @@
--- Which thread an event is in, given where earlier events are: the Client-Server API v1.11, 'Threading'; the rule for other relations is ours.
+-- Which thread an event is in, given where earlier events are: the Client-Server API v1.11,
+-- 'Threading'; the rule for other relations is ours.
 use Rattle.std.specs.Prelude.{ℕ, List, Option, Some, None, if◌then◌else◌}
 use Rattle.std.specs.Cmp.Lexicographic.{slice_cmp}
 use Rattle.std.specs.FinMap as map
@@ -29,7 +30,8 @@ abbrev pub thread_at : List ℕ → Option Place → ThreadKey
 thread_at room None = Main
 thread_at room (Some place) = if bytes_eq place.room room then place.thread else Main
 
--- The thread of an event is the one that `m.thread` names; for another relation to an earlier event of the
--- room it is that event's thread; and else it is the main one.
+-- The thread of an event is the one that `m.thread` names; for another relation to an earlier event
+-- of the room it is that event's thread; and else it is the main one.
 abbrev pub thread_of : (List ℕ → Option Place) → Json → ThreadKey
-thread_of places event = thread_by (λ id. thread_at (room_id_of event) (places id)) (relation_of event)
+thread_of places event =
+    thread_by (λ id. thread_at (room_id_of event) (places id)) (relation_of event)

@@ -23,4 +23,7 @@ noted entries = filter_map (λ entry. option_map (λ place. (entry.0, place)) en
 
 -- what is seen of the ids that are kept, each with its place if it has one
 abbrev pub view_of : List (List ℕ × Option Place) → ThreadsView
-view_of entries = record { places = map.from_entries (noted entries); capacity = set.from_list (keys_of entries) }
+view_of entries = record {
+  places = map.from_entries (noted entries);
+  capacity = set.from_list (keys_of entries);
+}

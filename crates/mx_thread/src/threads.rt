@@ -16,7 +16,8 @@ use std::alloc::Global;
 use std::collections::HashMap;
 use std::marker::Model;
 
-/// Where accepted events are, by their ids: seen as a map, with the ids for whose places there is capacity.
+/// Where accepted events are, by their ids: seen as a map, with the ids for whose places there is
+/// capacity.
 ///
 /// Each call is one look-up.
 #[derive(Drop)]

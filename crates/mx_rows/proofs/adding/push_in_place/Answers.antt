@@ -13,24 +13,37 @@ pub returns-clause-long : goal.returns-clause-long
 returns-clause-long c = index_map_len-with_value_at c.args.threads.now c.args.index c.push.new.self
 
 pub returns-clause-once : goal.returns-clause-once
-returns-clause-once c = subst (IsDistinct same_thread) (sym (keys-with_value_at c.args.threads.now c.args.index c.push.new.self)) c.pair_mut-kept.ensures.unique
+returns-clause-once c =
+    subst (IsDistinct same_thread)
+    (sym (keys-with_value_at c.args.threads.now c.args.index c.push.new.self)) c.pair_mut-kept.ensures.unique
 
 pub returns-clause-entries : goal.returns-clause-entries
 returns-clause-entries c = λ e is.
-    let here : (c.pair_mut-kept.result.0.now, c.pair_mut-kept.result.1.now) ≡ e = some_same (sym c.pair_mut-kept.ensures.value ∙ is) in
-    (c.push.new.self, refl, c.push.ensures.rows ∙ ap (λ (x : ThreadKey × ThreadRows). x.1.rows.items ++ c.args.row ∷ []) here)
+    let here : (c.pair_mut-kept.result.0.now, c.pair_mut-kept.result.1.now) ≡ e
+    = some_same (sym c.pair_mut-kept.ensures.value ∙ is) in (
+      c.push.new.self,
+      refl,
+      c.push.ensures.rows
+          ∙ ap (λ (x : ThreadKey × ThreadRows). x.1.rows.items ++ c.args.row ∷ []) here,
+    )
 
 pub returns-clause-rows : goal.returns-clause-rows
 returns-clause-rows c = λ e t is.
     let es = c.args.threads.now.entries in
-    let here : (c.pair_mut-kept.result.0.now, c.pair_mut-kept.result.1.now) ≡ e = some_same (sym c.pair_mut-kept.ensures.value ∙ is) in
-    let updated = updates-with_value_at c.args.threads.now c.args.index c.push.new.self same_thread-equiv c.pair_mut-kept.ensures.unique e.0 e.1 is in
-    read_after es (set_value_at es c.args.index c.push.new.self) e.0 (Some e.1) (Some c.push.new.self) (λ o. option_map_or (λ kept. kept.rows.items) o []) (λ rows. rows ++ c.args.row ∷ [])
-    (found_at es c.args.index e c.pair_mut-kept.ensures.unique is) updated.0 (c.push.ensures.rows ∙ ap (λ (x : ThreadKey × ThreadRows). x.1.rows.items ++ c.args.row ∷ []) here) t
+    let here : (c.pair_mut-kept.result.0.now, c.pair_mut-kept.result.1.now) ≡ e
+    = some_same (sym c.pair_mut-kept.ensures.value ∙ is) in
+    let updated = updates-with_value_at c.args.threads.now c.args.index c.push.new.self
+    same_thread-equiv c.pair_mut-kept.ensures.unique e.0 e.1 is in
+    read_after es (set_value_at es c.args.index c.push.new.self) e.0 (Some e.1) (Some c.push.new.self)
+    (λ o. option_map_or (λ kept. kept.rows.items) o []) (λ rows. rows ++ c.args.row ∷ [])
+    (found_at es c.args.index e c.pair_mut-kept.ensures.unique is) updated.0
+    (c.push.ensures.rows ∙ ap (λ (x : ThreadKey × ThreadRows). x.1.rows.items ++ c.args.row ∷ []) here) t
 
 pub returns-clause-capacity : goal.returns-clause-capacity
 returns-clause-capacity c = λ e t is.
     let es = c.args.threads.now.entries in
-    let updated = updates-with_value_at c.args.threads.now c.args.index c.push.new.self same_thread-equiv c.pair_mut-kept.ensures.unique e.0 e.1 is in
-    read_after es (set_value_at es c.args.index c.push.new.self) e.0 (Some e.1) (Some c.push.new.self) (λ o. option_map_or (λ kept. kept.reserved) o false) (λ b. false)
+    let updated = updates-with_value_at c.args.threads.now c.args.index c.push.new.self
+    same_thread-equiv c.pair_mut-kept.ensures.unique e.0 e.1 is in
+    read_after es (set_value_at es c.args.index c.push.new.self) e.0 (Some e.1) (Some c.push.new.self)
+    (λ o. option_map_or (λ kept. kept.reserved) o false) (λ b. false)
     (found_at es c.args.index e c.pair_mut-kept.ensures.unique is) updated.0 c.push.ensures.capacity t

@@ -15,11 +15,15 @@ loop-index-smaller c =
     let es = c.loop-index.threads.entries in
     let here = some_at es c.in-Some.index c.in-Some.ensures.within in
     let e = here.0 in
-    let starts : start_at e ≤ c.args.position = subst (λ (x : ThreadKey × ThreadRows). start_at x ≤ c.args.position) (get_or_of_slice_get es c.in-Some.index e here.1) (c.in-Some.ensures.some e) in
+    let starts : start_at e ≤ c.args.position
+    = subst (λ (x : ThreadKey × ThreadRows). start_at x ≤ c.args.position)
+    (get_or_of_slice_get es c.in-Some.index e here.1) (c.in-Some.ensures.some e) in
     let some = some_upto c.args.position e.1.rows.items starts (omega arith) in
-    let dropped : c.cut_at.result.notify ≡ length (upto c.args.position e.1.rows.items) = ap (λ (counts : Counts). counts.notify) (c.cut_at.ensures.dropped e here.1) in
+    let dropped : c.cut_at.result.notify ≡ length (upto c.args.position e.1.rows.items)
+    = ap (λ (counts : Counts). counts.notify) (c.cut_at.ensures.dropped e here.1) in
     let fewer = c.cut_at.ensures.fewer_rows in
-    let smaller : rows_left_to_cut c.args.position c.cut_at.new.threads.entries < rows_left_to_cut c.args.position es = omega arith in
+    let smaller : rows_left_to_cut c.args.position c.cut_at.new.threads.entries
+    < rows_left_to_cut c.args.position es = omega arith in
     smaller
 
 pub loop-index-preserved : goal.loop-index-preserved
@@ -31,19 +35,25 @@ loop-index-preserved c =
     record {
       order = c.cut_at.ensures.order;
       once = c.cut_at.ensures.once;
+      needed = c.cut_at.ensures.needed;
       rows = λ t. ap (above c.args.position) (c.cut_at.ensures.rows e t here.1)
-          ∙ cond_both (same_thread e.0 t) (above c.args.position (rows_in es t)) (rows_in es t) (λ l. above c.args.position l ≡ above c.args.position (rows_in es t)) (λ _. above-above c.args.position (rows_in es t)) (λ _. refl)
+          ∙ cond_both (same_thread e.0 t) (above c.args.position (rows_in es t)) (rows_in es t)
+          (λ l. above c.args.position l ≡ above c.args.position (rows_in es t))
+          (λ _. above-above c.args.position (rows_in es t)) (λ _. refl)
           ∙ before.rows t;
       capacity = λ t. c.cut_at.ensures.capacity t ∙ before.capacity t;
-      notify = let sum = c.plus-dropped.ensures.notify in let fewer = c.cut_at.ensures.fewer_rows in let total = before.notify in omega arith;
-      highlight = let sum = c.plus-dropped.ensures.highlight in let fewer = c.cut_at.ensures.fewer_highlights in let total = before.highlight in omega arith;
+      notify = let sum = c.plus-dropped.ensures.notify in let fewer = c.cut_at.ensures.fewer_rows in let total =
+          before.notify in omega arith;
+      highlight = let sum = c.plus-dropped.ensures.highlight in let fewer =
+          c.cut_at.ensures.fewer_highlights in let total = before.highlight in omega arith;
       notify_fits = let sum = c.plus-dropped.ensures.notify in omega arith;
       highlight_fits = let sum = c.plus-dropped.ensures.highlight in omega arith;
     }
 
 pub returns-clause-rows : goal.returns-clause-rows
 returns-clause-rows c = λ t.
-    sym (above-rows_in c.args.position c.loop-index.threads.entries c.in_default.ensures.none t) ∙ c.loop-index.invariant.rows t
+    sym (above-rows_in c.args.position c.loop-index.threads.entries c.in_default.ensures.none t)
+    ∙ c.loop-index.invariant.rows t
 
 pub returns-clause-notify : goal.returns-clause-notify
 returns-clause-notify c =

@@ -14,7 +14,8 @@ returns-then-index-upto c =
       before = λ k d below. at_remove (λ e. start_at e ≤ c.args.start) es c.args.index k d c.requires.within
           (λ lt. upto.before k d (omega arith)) (λ le. upto.before (k + 1) d (omega arith));
       after = λ k d from below. at_remove (λ e. c.args.start ≤ start_at e) es c.args.index k d c.requires.within
-          (λ lt. absurd (omega arith)) (λ le. let past = upto.after (k + 1) d (omega arith) (omega arith) in omega arith);
+          (λ lt. absurd (omega arith))
+          (λ le. let past = upto.after (k + 1) d (omega arith) (omega arith) in omega arith);
     }
 
 pub returns-else-index-upto : goal.returns-else-index-upto

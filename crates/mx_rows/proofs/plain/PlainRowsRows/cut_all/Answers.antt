@@ -6,8 +6,10 @@ use Rattle.mx_rows.proofs.plain.PlainRowsRows.cut_all.Goals as goal
 pub invariant_of-self : goal.invariant_of-self
 invariant_of-self c = record {
   once = c.cut_every.ensures.once;
+  needed = c.cut_every.ensures.needed;
   order = c.cut_every.ensures.order;
-  with_rows_in_order = are_in_order-entries c.cut_every.new.threads.entries c.cut_every.ensures.once c.cut_every.ensures.order;
+  with_rows_in_order =
+      are_in_order-entries c.cut_every.new.threads.entries c.cut_every.ensures.once c.cut_every.ensures.order;
 }
 
 pub returns-clause-dropped : goal.returns-clause-dropped

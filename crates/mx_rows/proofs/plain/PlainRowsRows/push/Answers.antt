@@ -7,8 +7,10 @@ use Rattle.mx_rows.proofs.plain.PlainRowsRows.push.Goals as goal
 pub invariant_of-self : goal.invariant_of-self
 invariant_of-self c = record {
   once = c.push_at.ensures.once;
+  needed = c.push_at.ensures.needed;
   order = c.push_at.ensures.order;
-  with_rows_in_order = are_in_order-entries c.push_at.new.threads.entries c.push_at.ensures.once c.push_at.ensures.order;
+  with_rows_in_order =
+      are_in_order-entries c.push_at.new.threads.entries c.push_at.ensures.once c.push_at.ensures.order;
 }
 
 pub returns-clause-lists : goal.returns-clause-lists
@@ -16,10 +18,13 @@ returns-clause-lists c = λ t.
     let es = c.args.self.now.threads.entries in
     let found = entry_found es c.args.thread.now c.in-Some.index c.in-Some.ensures.index in
     c.push_at.ensures.rows found.0 t found.1
-    ∙ by_found c.args.thread.now found.0.0 t (rows_in es t ++ record { position = c.args.position; highlight = c.args.highlight } ∷ []) (rows_in es t) found.2
+    ∙ by_found c.args.thread.now found.0.0 t
+    (rows_in es t ++ record { position = c.args.position; highlight = c.args.highlight } ∷ [])
+    (rows_in es t) found.2
 
 pub returns-clause-capacity : goal.returns-clause-capacity
 returns-clause-capacity c = λ t.
     let es = c.args.self.now.threads.entries in
     let found = entry_found es c.args.thread.now c.in-Some.index c.in-Some.ensures.index in
-    c.push_at.ensures.capacity found.0 t found.1 ∙ by_found c.args.thread.now found.0.0 t false (reserved_in es t) found.2
+    c.push_at.ensures.capacity found.0 t found.1
+    ∙ by_found c.args.thread.now found.0.0 t false (reserved_in es t) found.2

@@ -6,7 +6,8 @@ use Rattle.mx_rows.proofs.thread_rows.ThreadRows.cut.Goals as goal
 
 pub invariant_of-self : goal.invariant_of-self
 invariant_of-self c =
-    let left : c.retain.new.self.items ≡ above c.args.position c.args.self.now.rows.items = filter_same _ _ _ (λ x b f' k. search rules) _ _ c.retain.ensures.filtered in
+    let left : c.retain.new.self.items ≡ above c.args.position c.args.self.now.rows.items
+    = filter_same _ _ _ (λ x b f' k. search rules) _ _ c.retain.ensures.filtered in
     record {
       rising = ap is_rising left ∙ is_rising-above c.args.position c.args.self.now.rows.items c.args.self.now.rising;
       in_range = ap are_in_range left ∙ list_all-filter _ _ c.args.self.now.rows.items c.args.self.now.in_range;

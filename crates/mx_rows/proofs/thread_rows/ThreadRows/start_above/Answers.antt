@@ -6,10 +6,15 @@ use Rattle.mx_rows.proofs.thread_rows.ThreadRows.start_above.Goals as goal
 
 pub returns-in-Some : goal.returns-in-Some
 returns-in-Some c =
-    let found : find (λ (row : Row). nat_lt c.args.position row.position) c.args.self.now.rows.items ≡ Some c.in-Some.row.now = search rules in
-    c.from.ensures ∙ sym (start_of-above c.args.position c.args.self.now.rows.items ∙ ap (λ o. option_map_or (λ (row : Row). row.position) o 18446744073709551616) found)
+    let found : find (λ (row : Row). nat_lt c.args.position row.position) c.args.self.now.rows.items
+    ≡ Some c.in-Some.row.now = search rules in
+    c.from.ensures ∙ sym
+    (start_of-above c.args.position c.args.self.now.rows.items
+    ∙ ap (λ o. option_map_or (λ (row : Row). row.position) o 18446744073709551616) found)
 
 pub returns-in-None : goal.returns-in-None
 returns-in-None c =
-    let found : find (λ (row : Row). nat_lt c.args.position row.position) c.args.self.now.rows.items ≡ None = search rules in
-    sym (start_of-above c.args.position c.args.self.now.rows.items ∙ ap (λ o. option_map_or (λ (row : Row). row.position) o 18446744073709551616) found)
+    let found : find (λ (row : Row). nat_lt c.args.position row.position) c.args.self.now.rows.items ≡ None
+    = search rules in
+    sym (start_of-above c.args.position c.args.self.now.rows.items
+    ∙ ap (λ o. option_map_or (λ (row : Row). row.position) o 18446744073709551616) found)

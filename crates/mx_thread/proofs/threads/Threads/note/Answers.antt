@@ -10,12 +10,14 @@ use Rattle.mx_thread.proofs.threads.Threads.note.Goals as goal
 pub unreachable-requires : goal.unreachable-requires
 unreachable-requires c =
     let there : is_some (lookup (bytes_eq c.args.id.now) c.self.inside.places.entries) ≡ true
-    = sym (capacity-view c.self.inside.places.entries c.args.id.now) ∙ ap (λ (threads : ThreadsView). has_capacity threads c.args.id.now) c.self.view_is ∙ c.requires.capacity in
+    = sym (capacity-view c.self.inside.places.entries c.args.id.now)
+    ∙ ap (λ (threads : ThreadsView). has_capacity threads c.args.id.now) c.self.view_is ∙ c.requires.capacity in
     false≢true (ap is_some c.in-None.ensures.value ∙ there)
 
 pub returns-clause-places : goal.returns-clause-places
 returns-clause-places c =
     let written = c.get_mut.follows.holds (Some c.args.place) in
-    places-noted c.self.inside.places.entries (c.get_mut.follows.lender (Some c.args.place)).entries c.args.id.now c.args.place
+    places-noted c.self.inside.places.entries
+    (c.get_mut.follows.lender (Some c.args.place)).entries c.args.id.now c.args.place
     (written.3 (subst IsSome c.in-Some.ensures.value refl)).0 c.self.invariant written.4
     ∙ ap (λ (threads : ThreadsView). map.insert threads.places c.args.id.now c.args.place) c.self.view_is
