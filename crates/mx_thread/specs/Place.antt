@@ -6,6 +6,7 @@ use Rattle.std.specs.FinMap as map
 use Rattle.std.specs.Ordering.{nat_cmp}
 use Rattle.std.specs.Str.{bytes_eq}
 use Rattle.mx_json.specs.declared.value.Json.{Json}
+use Rattle.mx_json.specs.Ids.{is_event_id}
 use Rattle.mx_event.specs.Event.{Related, in_thread, to_another, to_nothing, relation_of, room_id_of}
 use Rattle.mx_rows.specs.declared.thread_key.ThreadKey.{ThreadKey}
 use Rattle.mx_rows.specs.declared.thread_key.ThreadKey.TheVariants.{Main, Root}
@@ -19,10 +20,11 @@ Places = map.FinMap (slice_cmp nat_cmp) Place
 abbrev pub place_in : Places → List ℕ → Option Place
 place_in places id = map.get places id
 
--- the thread that a relation leads to, where `named` gives that of the event with an id
+-- the thread that a relation leads to, where `named` gives that of the event with an id; a text that
+-- is no event id names no event
 abbrev pub thread_by : (List ℕ → ThreadKey) → Related → ThreadKey
 thread_by named (in_thread root) = Root root
-thread_by named (to_another id) = named id
+thread_by named (to_another id) = if is_event_id id then named id else Main
 thread_by named to_nothing = Main
 
 -- the thread of the event that is there, if it's one of this room, and else the main one

@@ -4,7 +4,6 @@
 //! keeps these places by the events' ids.
 #![tactic(auto)]
 
-mod id_text;
 mod place;
 mod threads;
 

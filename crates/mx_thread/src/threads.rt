@@ -1,16 +1,15 @@
-ghost use Rattle.std.specs.Prelude.{◌≡◌, ◌&&◌, ◌||◌, true, None, is_ok, List, ℕ, IfOk};
+ghost use Rattle.std.specs.Prelude.{◌≡◌, ◌&&◌, ◌||◌, true, None, is_ok, if◌then◌else◌, List, ℕ, IfOk};
 ghost use Rattle.std.specs.FinMap as map;
 ghost use Rattle.std.specs.Option.{option_copied};
 ghost use Rattle.std.specs.Str.{bytes_eq};
 ghost use Rattle.mx_json.specs.Ids.{is_event_id};
-ghost use Rattle.mx_rows.specs.declared.thread_key.ThreadKey.TheVariants.{Root};
-ghost use Rattle.mx_thread.specs.Place.{place_in, thread_of};
+ghost use Rattle.mx_rows.specs.declared.thread_key.ThreadKey.TheVariants.{Main, Root};
+ghost use Rattle.mx_thread.specs.Place.{place_in, thread_at, thread_of};
 ghost use Rattle.mx_thread.specs.ThreadsView.{has_capacity};
 
-use crate::id_text::IdText;
 use crate::place::Place;
 use mx_event::{Event, Relation};
-use mx_json::{EventId, IdError, OutOfMemory};
+use mx_json::{EventId, IdError, OutOfMemory, RoomId};
 use mx_rows::ThreadKey;
 use std::alloc::Global;
 use std::collections::HashMap;
@@ -64,10 +63,7 @@ impl Threads {
     {
         match event.relation() {
             Relation::Thread(root) => root_of(alloc, root),
-            Relation::Other(id) => match self.place_at(id) {
-                Some(place) if place.room == *event.room_id() => place.thread.copied(alloc),
-                _ => Ok(ThreadKey::Main),
-            },
+            Relation::Other(id) => self.thread_beside(alloc, id, event.room_id()),
             Relation::Nothing => Ok(ThreadKey::Main),
         }
     }
@@ -106,15 +102,29 @@ impl Threads {
     pub fn place_of(&self, id: &EventId) -> Option<&Place>
         ensures { option_copied result ≡ place_in self.now.places id.now }
     {
-        self.place_at(id.as_text())
-    }
-
-    fn place_at(&self, id: &str) -> Option<&Place>
-        ensures { option_copied result ≡ place_in self.now.places id.now }
-    {
-        match self.places.get(IdText(id)) {
+        match self.places.get(id) {
             Some(kept) => kept.as_ref(),
             None => None,
+        }
+    }
+
+    // The thread of the event with this id where it is one of the room, and else the main one.
+    fn thread_beside(
+        &self,
+        alloc: Global,
+        id: &str,
+        room: &RoomId,
+    ) -> Result<ThreadKey, OutOfMemory>
+        ensures { IfOk result (λ thread. thread ≡ (if is_event_id id.now
+            then thread_at room.now (place_in self.now.places id.now) else Main)) }
+    {
+        match EventId::read(alloc, id) {
+            Ok(id) => match self.place_of(&id) {
+                Some(place) if place.room == *room => place.thread.copied(alloc),
+                _ => Ok(ThreadKey::Main),
+            },
+            Err(IdError::BadId) => Ok(ThreadKey::Main),
+            Err(IdError::OutOfMemory) => Err(OutOfMemory),
         }
     }
 }

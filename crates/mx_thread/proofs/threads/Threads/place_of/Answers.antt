@@ -2,7 +2,7 @@ use Rattle.std.proofs.Common.{sym, ap, ◌∙◌}
 use Rattle.mx_thread.specs.Place.{place_in}
 use Rattle.mx_thread.specs.ThreadsView.{ThreadsView}
 use Rattle.mx_thread.proofs.ViewLemmas.{get-view, place_found}
-use Rattle.mx_thread.proofs.threads.Threads.place_at.Goals as goal
+use Rattle.mx_thread.proofs.threads.Threads.place_of.Goals as goal
 
 pub returns-in-Some : goal.returns-in-Some
 returns-in-Some c =
