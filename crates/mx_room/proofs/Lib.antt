@@ -1,0 +1,4 @@
+pub mod JoinedLemmas
+pub mod KeptLemmas
+pub mod StateLemmas
+pub mod TextsLemmas
