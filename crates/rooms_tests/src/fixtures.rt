@@ -3,7 +3,7 @@ ghost use Rattle.std.specs.Prelude.{◌≡◌, true};
 ghost use Rattle.mx_json.specs.Json.{is_valid};
 
 use mx_event::Event;
-use mx_json::Json;
+use mx_json::{Json, UserId};
 use mx_room::Room;
 use std::alloc::Global;
 use std::process::Abort;
@@ -51,6 +51,11 @@ fn message_text(rt: &impl Abort, alloc: Global, told: Told) -> String {
     format!(in alloc;
         r#"{{"content":{content},"event_id":"$1","room_id":"!r:b","sender":"{sender}","type":"{kind}"}}"#
     ).expect(rt, "an event's text")
+}
+
+/// The user with this id.
+pub(crate) fn user(rt: &impl Abort, alloc: Global, id: &str) -> UserId {
+    UserId::read(alloc, id).expect(rt, id)
 }
 
 /// The room of these events.
