@@ -8,7 +8,7 @@ use Rattle.mx_json.proofs.JsonLemmas.{depth_of-Object}
 use Rattle.mx_json.proofs.ObjectLemmas.{is_ascii, is_fit, is_fit-Whole, is_fit-Text, is_fit_from, is_utf8-ascii, is_valid-Object}
 use Rattle.mx_records.specs.FieldNames.{name_of}
 use Rattle.mx_records.specs.Refusing.{most_inputs, NamesAPosition}
-use Rattle.mx_records.specs.declared.counts.Counts.{Counts}
+use Rattle.mx_rows.specs.declared.counts.Counts.{Counts}
 use Rattle.mx_records.specs.declared.field_name.FieldName.{FieldName}
 use Rattle.mx_records.specs.declared.field_name.FieldName.TheVariants.{Cmd}
 use Rattle.mx_records.specs.declared.refusal.Refusal.{Refusal}

@@ -2,7 +2,7 @@
 use Rattle.std.specs.Prelude.{ℕ, pos, Bool, List, [], ◌∷◌, ◌++◌, codes, if◌then◌else◌}
 use Rattle.mx_json.specs.declared.value.Json.{Json, Whole, Text, Object}
 use Rattle.mx_json.specs.Canonical.{canonical}
-use Rattle.mx_records.specs.declared.counts.Counts.{Counts}
+use Rattle.mx_rows.specs.declared.counts.Counts.{Counts}
 use Rattle.mx_records.specs.declared.refusal.Refusal.{Refusal}
 use Rattle.mx_records.specs.declared.refusal.Refusal.TheVariants.{NotLocal, KnownEvent, Full}
 use Rattle.mx_records.specs.FieldNames.{name_of}

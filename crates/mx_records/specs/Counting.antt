@@ -3,7 +3,7 @@ use Rattle.std.specs.Prelude.{ℕ, List, Bool, ◌&&◌, length, filter, count_b
 use Rattle.std.specs.Str.{bytes_eq}
 use Rattle.mx_json.specs.declared.value.Json.{Json}
 use Rattle.mx_event.specs.Event.{room_id_of}
-use Rattle.mx_records.specs.declared.counts.Counts.{Counts}
+use Rattle.mx_rows.specs.declared.counts.Counts.{Counts}
 use Rattle.mx_records.specs.History.{History, Happening, events}
 use Rattle.mx_records.specs.Judging.{notifies, highlights}
 

@@ -1,6 +1,8 @@
 pub mod History
+pub mod Rooms
 pub mod Judging
 pub mod Counting
+pub mod Places
 pub mod Refusing
 pub mod Snapshot
 pub mod FieldNames

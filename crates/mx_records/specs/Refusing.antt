@@ -1,29 +1,18 @@
 -- Which inputs and questions a history refuses, and which inputs it may go on with: ours.
-use Rattle.std.specs.Prelude.{ℕ, ◌≤◌, List, ◌≡◌, Bool, nat_le, if◌then◌else◌, Option, None, Some, is_some, option_map, find}
+use Rattle.std.specs.Prelude.{ℕ, ◌≤◌, List, ◌≡◌, Bool, nat_le, if◌then◌else◌, Option, None, Some, is_some, option_map}
 use Rattle.std.specs.Option.{option_or}
-use Rattle.std.specs.Str.{bytes_eq}
-use Rattle.mx_json.specs.declared.value.Json.{Json}
 use Rattle.mx_json.specs.Ids.{localpart_of}
 use Rattle.mx_event.specs.Event.{event_id_of}
 use Rattle.mx_records.specs.declared.input.Input.{Input}
 use Rattle.mx_records.specs.declared.input.Input.TheVariants.{Event}
 use Rattle.mx_records.specs.declared.refusal.Refusal.{Refusal}
 use Rattle.mx_records.specs.declared.refusal.Refusal.TheVariants.{NotLocal, KnownEvent, Full}
-use Rattle.mx_records.specs.History.{History, events, inputs_of, position_after}
+use Rattle.mx_records.specs.History.{History, inputs_of}
+use Rattle.mx_records.specs.Places.{position_of}
 
 -- the user is one of this server
 abbrev pub is_local : List ℕ → List ℕ → Bool
 is_local server user = is_some (localpart_of server user)
-
--- the event has this id
-abbrev pub is_named : List ℕ → Json → Bool
-is_named id event = bytes_eq (event_id_of event) id
-
--- where the event with this id was accepted first
-unfoldable pub position_of : History → List ℕ → Option ℕ
-position_of h id =
-    option_map (λ happening. position_after happening.before)
-    (find (λ happening. is_named id happening.event) (events h))
 
 -- as many inputs as a history may have
 abbrev pub most_inputs : ℕ

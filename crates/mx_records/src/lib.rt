@@ -1,12 +1,13 @@
 //! What a history of notifications is made of, what it refuses, and what it answers.
 //!
 //! A history is the list of the inputs that were accepted; each answer is a definition over the
-//! whole list (`specs/`). An input is read from a JSON object by the form that its word asks for
+//! whole list (`specs/`): the room after an event (`Rooms.antt`), whom it notifies
+//! (`Judging.antt`), its place and thread (`Places.antt`), what is unread (`Counting.antt`), what is
+//! refused (`Refusing.antt`). An input is read from a JSON object by the form that its word asks for
 //! (`specs/Forms.antt`). A state that stands for a history shows a snapshot of it, and is asked by
 //! way of [`Questions`].
 #![tactic(auto)]
 
-mod counts;
 mod field_name;
 mod input;
 mod input_error;
@@ -16,10 +17,10 @@ mod refusal;
 #[cfg(test)]
 mod tests;
 
-pub use counts::Counts;
 pub use field_name::FieldName;
 pub use input::Input;
 pub use input_error::InputError;
 pub use input_word::InputWord;
+pub use mx_rows::Counts;
 pub use questions::Questions;
 pub use refusal::{MOST_INPUTS, Refusal};
