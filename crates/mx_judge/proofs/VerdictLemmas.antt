@@ -7,7 +7,7 @@ use Rattle.mx_cond.specs.Facts.{EventFacts}
 use Rattle.mx_rule.specs.declared.kind.Kind.{Kind}
 use Rattle.mx_rule.specs.declared.kind.RulePlace.{RulePlace}
 use Rattle.mx_rule.specs.Actions.{no_notification, verdict_of}
-use Rattle.mx_judge.specs.Judged.{IsVerdict}
+use Rattle.mx_rule.specs.Judged.{IsVerdict}
 use Rattle.mx_rule.specs.Rule.{PushRule}
 use Rattle.mx_rule.specs.Ruleset.{IsFirstMatch, Placed, PushRuleset, by_importance, flat, is_given, is_master, is_own, kinds, placed, placed_from, rules_of_kind}
 

@@ -1,6 +1,6 @@
 ghost use Rattle.std.specs.Prelude.{◌≡◌, IfOk};
 ghost use Rattle.mx_cond.specs.Facts.{told_by};
-ghost use Rattle.mx_judge.specs.Judged.{invites, is_judged, IsJudged, IsVerdict};
+ghost use Rattle.mx_rule.specs.Judged.{invites, is_judged, judged, IsJudged, IsVerdict};
 ghost use Rattle.mx_rule.specs.Ruleset.{flat};
 ghost use Rattle.mx_room.specs.Facts.{facts_of};
 ghost use Rattle.mx_room.specs.Members.{membership_at};
@@ -30,8 +30,11 @@ pub fn judge(
     view: &RoomView,
     scratch: &mut Scratch,
 ) -> Result<Option<Verdict>, OutOfMemory>
-    ensures { IfOk result (IsJudged server.now owner.now (membership_at view.now owner.now)
+    ensures meaning { IfOk result (IsJudged server.now owner.now (membership_at view.now owner.now)
         rules.now (facts_of event.now owner.now view.now)) }
+    ensures exact { IfOk result (λ answer. answer
+        ≡ judged server.now owner.now (membership_at view.now owner.now) rules.now
+            (facts_of event.now owner.now view.now)) }
 {
     if !is_judged(event, owner, server, view) {
         return Ok(None);

@@ -71,12 +71,12 @@ highlights actions = unwrap_or (last_said highlight_in actions) false
 abbrev pub sound_of : List Action → Option (List ℕ)
 sound_of actions = unwrap_or (last_said sound_in actions) None
 
-abbrev pub verdict_by : List Action → Verdict
-verdict_by actions = record { notify = notifies actions; highlight = highlights actions; sound = sound_of actions }
+abbrev pub meaning_of : List Action → Verdict
+meaning_of actions = record { notify = notifies actions; highlight = highlights actions; sound = sound_of actions }
 
 -- what a rule with these actions says of an event for which it decides
 abbrev pub verdict_of : List Json → Verdict
-verdict_of actions = verdict_by (map action_of actions)
+verdict_of actions = meaning_of (map action_of actions)
 
 -- what is said of an event for which no rule decides
 abbrev pub no_notification : Verdict

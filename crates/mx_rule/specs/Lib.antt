@@ -1,4 +1,6 @@
 pub mod Actions
+pub mod Deciding
+pub mod Judged
 pub mod Predefined
 pub mod Printed
 pub mod Rule

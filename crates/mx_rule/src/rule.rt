@@ -4,6 +4,7 @@ ghost use Rattle.std.specs.Option.{option_copied};
 ghost use Rattle.mx_json.specs.Json.{is_valid};
 ghost use Rattle.mx_cond.specs.Facts.{told_by};
 ghost use Rattle.mx_rule.specs.Actions.{action_of, verdict_of};
+ghost use Rattle.mx_rule.specs.Deciding.{may_decide};
 ghost use Rattle.mx_rule.specs.Rule.{conditions_of, has_mentions, is_passed_over, looks_for_mention, pattern_of, MayDecide};
 
 use crate::action::Action;
@@ -151,7 +152,8 @@ impl Rule {
         facts: &Facts,
         scratch: &mut Scratch,
     ) -> Result<bool, OutOfMemory>
-        ensures { IfOk result (λ may. IsTrue may ↔ MayDecide self.now (told_by facts.now)) }
+        ensures meaning { IfOk result (λ may. IsTrue may ↔ MayDecide self.now (told_by facts.now)) }
+        ensures exact { IfOk result (λ may. may ≡ may_decide self.now (told_by facts.now)) }
     {
         if !self.enabled || is_passed_over(self.id.as_str(), facts.event) {
             return Ok(false);

@@ -1,6 +1,6 @@
 ghost use Rattle.std.specs.Prelude.{◌≡◌, option_map, IfOk};
 ghost use Rattle.std.specs.Option.{option_copied};
-ghost use Rattle.mx_rule.specs.Actions.{highlight_in, highlights, notifies, sound_in, sound_of, verdict_by};
+ghost use Rattle.mx_rule.specs.Actions.{highlight_in, highlights, notifies, sound_in, sound_of, meaning_of};
 
 use crate::action::Action;
 use mx_json::{JsonText, OutOfMemory};
@@ -25,7 +25,7 @@ impl Verdict {
     ///
     /// `OutOfMemory` where the allocator has none.
     pub fn by(alloc: Global, actions: &[Action]) -> Result<Verdict, OutOfMemory>
-        ensures { IfOk result (λ verdict. verdict ≡ verdict_by actions.now) }
+        ensures { IfOk result (λ verdict. verdict ≡ meaning_of actions.now) }
     {
         let sound = match sound_of(actions) {
             Some(sound) => Some(sound.copied(alloc)?),

@@ -2,7 +2,7 @@ use Rattle.std.proofs.Common.{◌≡◌, subst, sym}
 use Rattle.std.proofs.lemmas.Result.{IfOk-weaker}
 use Rattle.mx_cond.specs.Facts.{told_by}
 use Rattle.mx_rule.specs.Actions.{no_notification, verdict_of}
-use Rattle.mx_judge.specs.Judged.{IsVerdict}
+use Rattle.mx_rule.specs.Judged.{IsVerdict}
 use Rattle.mx_rule.specs.Ruleset.{flat, IsFirstMatch}
 use Rattle.mx_judge.proofs.VerdictLemmas.{IsVerdict-found, IsVerdict-none, found-there, in_place-flat}
 use Rattle.mx_judge.proofs.judging.verdict_by.Goals as goal

@@ -1,5 +1,5 @@
 -- Whether and how an event is judged for a user: the Client-Server API v1.11, "Push rules"; for whom, and by which state of the room, is ours.
-use Rattle.std.specs.Prelude.{◌≡◌, ℕ, Bool, false, not, ◌&&◌, ◌||◌, List, [], ◌∷◌, codes, Option, None, is_some, ◌⊎◌, IsSomeAnd, MatchBool}
+use Rattle.std.specs.Prelude.{◌≡◌, ℕ, Bool, false, not, ◌&&◌, ◌||◌, if◌then◌else◌, List, [], ◌∷◌, codes, Option, Some, None, is_some, ◌⊎◌, IsSomeAnd, MatchBool}
 use Rattle.std.specs.Option.{option_map_or}
 use Rattle.std.specs.Str.{bytes_eq}
 use Rattle.mx_json.specs.declared.value.Json.{Json}
@@ -8,6 +8,7 @@ use Rattle.mx_event.specs.Event.{membership_of, sender_of}
 use Rattle.mx_cond.specs.Facts.{EventFacts}
 use Rattle.mx_rule.specs.declared.verdict.Verdict.{Verdict}
 use Rattle.mx_rule.specs.Actions.{no_notification, verdict_of}
+use Rattle.mx_rule.specs.Deciding.{may_decide}
 use Rattle.mx_rule.specs.Rule.{MayDecide}
 use Rattle.mx_rule.specs.Ruleset.{Placed, PushRuleset, flat}
 
@@ -40,3 +41,16 @@ IsJudged server owner membership_after rules facts judged =
     MatchBool (is_judged server owner membership_after facts.event)
     (IsSomeAnd judged (IsVerdict facts (flat rules)))
     (judged ≡ None)
+
+-- ---- the same as functions, by which events can be filtered
+
+-- what is said of an event by these rules, in order of importance: what the first says that may decide; where none may, it doesn't notify
+abbrev pub verdict_by : EventFacts → List Placed → Verdict
+verdict_by facts [] = no_notification
+verdict_by facts (first ∷ rest) =
+    if may_decide first.rule facts then verdict_of first.rule.actions else verdict_by facts rest
+
+-- what is said of an event for the owner, by the owner's rules before it and the facts after it; of an event that isn't judged for the owner nothing is
+unfoldable pub judged : List ℕ → List ℕ → List ℕ → PushRuleset → EventFacts → Option Verdict
+judged server owner membership_after rules facts =
+    if is_judged server owner membership_after facts.event then Some (verdict_by facts (flat rules)) else None
