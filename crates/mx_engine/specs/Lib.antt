@@ -3,7 +3,8 @@ pub use Rattle.mx_records.specs.Judging
 pub use Rattle.mx_records.specs.Counting
 pub use Rattle.mx_records.specs.Refusing
 pub use Rattle.mx_records.specs.Snapshot
-pub mod Messages
+pub mod Capacity
+pub mod Noticing
 pub mod Planning
 pub mod Preparing
 pub mod View

@@ -1,13 +1,16 @@
 //! The state of one homeserver's notifications, changed input by input.
 //!
 //! An engine stands for a history, the list of the inputs that it accepted. An input is prepared,
-//! which takes all of its memory and says whether the history refuses it, and then applied, which
-//! can't fail. Every contract is said of each history for which the engine stands.
+//! which takes all of its memory, judges it and says whether the history refuses it, and then
+//! applied, which can't fail. Every contract is said of each history for which the engine stands.
 #![tactic(auto)]
 
 mod engine;
 mod error;
+mod judging;
+mod notified;
 mod plan;
+mod rules;
 
 pub use engine::Engine;
 pub use error::PrepareError;

@@ -1,20 +1,17 @@
 -- What a state that stands for a history knows of it, as a function of the history: ours.
-use Rattle.std.specs.Prelude.{ℕ, List, Bool, map, Option, Some, None, option_map, option_and_then, if◌then◌else◌}
-use Rattle.std.specs.FinMap.{keys}
+use Rattle.std.specs.Prelude.{ℕ, List, Bool, false, ◌&&◌, map, count_by, is_some, unwrap_or}
+use Rattle.std.specs.FinMap.{get}
+use Rattle.std.specs.Str.{bytes_eq}
 use Rattle.mx_event.specs.Event.{room_id_of}
-use Rattle.mx_rule.specs.declared.verdict.Verdict.{Verdict}
 use Rattle.mx_room.specs.Rooms.{rooms_of}
 use Rattle.mx_room.specs.State.{RoomState}
-use Rattle.mx_room.specs.Texts.{Texts, table}
+use Rattle.mx_room.specs.Texts.{Texts}
+use Rattle.mx_rows.specs.declared.counts.Counts.{Counts}
 use Rattle.mx_thread.specs.Place.{Places}
 use Rattle.mx_records.specs.History.{History, Happening, events, inputs_of, position_after}
-use Rattle.mx_records.specs.Judging.{verdict_for}
+use Rattle.mx_records.specs.Judging.{notices_in, rules_of}
 use Rattle.mx_records.specs.Places.{places_of}
 use Rattle.mx_records.specs.Rooms.{events_of, room_after}
-
--- whether what is said of an event is highlighted, where it notifies
-abbrev pub notice_of : Verdict → Option Bool
-notice_of verdict = if verdict.notify then Some verdict.highlight else None
 
 -- An event, and each user whom it notifies with whether it is highlighted.
 pub record Notified : Type 0 where
@@ -22,16 +19,12 @@ pub record Notified : Type 0 where
   pub room : List ℕ
   pub users : Texts Bool
 
--- whether an event is highlighted for a user, where it notifies the user
-abbrev pub notice_for : List ℕ → Happening → List ℕ → Option Bool
-notice_for server happening user = option_and_then notice_of (verdict_for server user happening)
-
--- an event with those whom it notifies: members of its room, joined or invited
+-- an event with those whom it notifies
 abbrev pub notified_by : List ℕ → Happening → Notified
 notified_by server happening = record {
   position = position_after happening.before;
   room = room_id_of happening.event;
-  users = table (notice_for server happening) (keys (room_after happening).members);
+  users = notices_in server (rules_of server happening.before) (room_after happening) happening.event;
 }
 
 -- What is known of a history.
@@ -48,4 +41,22 @@ snapshot_of server h = record {
   places = places_of h;
   rooms = rooms_of (events_of h);
   notified = map (notified_by server) (events h);
+}
+
+-- ---- what is unread, read off those who were notified
+
+-- the event is one of the room, and notifies the user
+abbrev pub is_notified_in : List ℕ → List ℕ → Notified → Bool
+is_notified_in room user notified = bytes_eq notified.room room && is_some (get notified.users user)
+
+-- the event is one of the room, and is highlighted for the user
+abbrev pub is_highlighted_in : List ℕ → List ℕ → Notified → Bool
+is_highlighted_in room user notified =
+    bytes_eq notified.room room && unwrap_or (get notified.users user) false
+
+-- how many events of the room notify the user, and how many of these are highlighted
+abbrev pub counts_in : List Notified → List ℕ → List ℕ → Counts
+counts_in notified user room = record {
+  notify = count_by (is_notified_in room user) notified;
+  highlight = count_by (is_highlighted_in room user) notified;
 }

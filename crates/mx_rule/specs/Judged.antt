@@ -3,7 +3,7 @@ use Rattle.std.specs.Prelude.{◌≡◌, ℕ, Bool, false, not, ◌&&◌, ◌||�
 use Rattle.std.specs.Option.{option_map_or}
 use Rattle.std.specs.Str.{bytes_eq}
 use Rattle.mx_json.specs.declared.value.Json.{Json}
-use Rattle.mx_json.specs.Ids.{localpart_of}
+use Rattle.mx_json.specs.Ids.{is_user_id, localpart_of}
 use Rattle.mx_event.specs.Event.{membership_of, sender_of}
 use Rattle.mx_cond.specs.Facts.{EventFacts}
 use Rattle.mx_rule.specs.declared.verdict.Verdict.{Verdict}
@@ -22,7 +22,8 @@ invites event user =
 -- an event is judged for a local user who didn't send it, and who is joined after it or whom it invites
 abbrev pub is_judged : List ℕ → List ℕ → List ℕ → Json → Bool
 is_judged server owner membership_after event =
-    is_some (localpart_of server owner)
+    is_user_id owner
+    && is_some (localpart_of server owner)
     && not (bytes_eq (sender_of event) owner)
     && (bytes_eq membership_after (codes "join") || invites event owner)
 
