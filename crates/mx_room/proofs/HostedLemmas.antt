@@ -5,12 +5,11 @@ use Rattle.std.specs.FinMap.{find, from_entries, get, get-from_entries, insert}
 use Rattle.std.specs.FinSet as set
 use Rattle.std.specs.List.{IsDistinct, cons_option, filter, filter_map, list_any}
 use Rattle.std.specs.Map.{keys_of, lookup}
-use Rattle.std.specs.Option.{option_filter}
 use Rattle.std.specs.Ordering.{eq_by_cmp, nat_cmp}
 use Rattle.std.specs.Str.{bytes_eq}
 use Rattle.std.proofs.lemmas.Bool.{false≢true}
 use Rattle.std.proofs.lemmas.Map.{lookup-none}
-use Rattle.std.proofs.lemmas.Map.Entries.{lookup-filter-values, none_past_head}
+use Rattle.std.proofs.lemmas.Map.Entries.{lookup-filter-values, none_past_head, option_filter}
 use Rattle.std.proofs.lemmas.Map.Keys.{IsDistinct-tail}
 use Rattle.std.proofs.lemmas.Map.Made.{is_some-lookup}
 use Rattle.mx_room.specs.Change.{Sets, with_sets}
@@ -232,3 +231,7 @@ module _ (old new : HostedRooms) (id : List ℕ) (now : HostedRoom)
       states-put are.distinct distinct (with_sets sets (room_at (states_in old) id))
       (ap (λ b. cond b (Some now.room.state) None) known
       ∙ ap Some (state ∙ ap (with_sets sets) (sym (room_at-found server old id was are found))))
+
+pub none_from : {X : Type 0} (o : Option X) → is_some o ≡ false → o ≡ None
+none_from None none = refl
+none_from (Some x) some = absurd (false≢true (sym some))

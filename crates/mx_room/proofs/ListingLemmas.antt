@@ -181,3 +181,7 @@ nobody_joined server q =
 
 pub listing-none : (server : List ℕ) → IsListing server (room_of []) []
 listing-none server q = sym (nobody_joined server q)
+
+pub distinct-none : IsDistinct bytes_eq []
+unfolding IsDistinct
+distinct-none = tt
