@@ -1,4 +1,4 @@
--- What a room keeps, and what its map of members stands for: ours.
+-- What a room keeps, of all members and of the joined local ones, and what its map of members stands for: ours.
 use Rattle.std.specs.Prelude.{ℕ, List, map}
 use Rattle.std.specs.FinMap.{from_entries}
 use Rattle.std.specs.declared.string.String.{String}
@@ -9,6 +9,11 @@ use Rattle.mx_room.specs.Texts.{Texts}
 -- a room's state, and for how many further members it has capacity
 pub record KeptRoom : Type 0 where
   pub state : RoomState
+  pub capacity : ℕ
+
+-- the joined local users of a room, and how many there is memory for
+pub record KeptUsers : Type 0 where
+  pub users : List (List ℕ)
   pub capacity : ℕ
 
 -- an entry, with its key as bytes

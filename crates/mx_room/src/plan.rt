@@ -1,6 +1,7 @@
-ghost use Rattle.std.specs.Prelude.{◌≡◌, IfOk, IfSome, IsSome, option_and_then, option_map};
-ghost use Rattle.std.specs.Option.{option_copied};
+ghost use Rattle.std.specs.Prelude.{◌≡◌, false, IfOk, IfSome, IsSome, option_and_then, option_map};
+ghost use Rattle.std.specs.Option.{option_copied, option_map_or};
 ghost use Rattle.mx_room.specs.Change.{creator_set_by, powers_set_by, sets_of};
+ghost use Rattle.mx_room.specs.Members.{joins};
 ghost use Rattle.mx_room.specs.State.{is_state};
 
 use crate::member::{Member, member_set_by};
@@ -58,6 +59,16 @@ impl RoomPlan {
         match &self.member {
             Some((user, member)) => Some((user.as_str(), member)),
             None => None,
+        }
+    }
+
+    // Whether a user is joined after this plan, of whom it sets something.
+    pub(crate) fn joins(&self) -> bool
+        ensures { result ≡ option_map_or (λ set. joins set.1) self.now.member false }
+    {
+        match &self.member {
+            Some((_, member)) => member.has_joined(),
+            None => false,
         }
     }
 
