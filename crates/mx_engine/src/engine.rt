@@ -1,25 +1,38 @@
-ghost use Rattle.std.specs.Prelude.{◌≡◌, ◌+◌, ◌<◌, ◌≤◌, ◌∷◌, [], IfOk, OnOk, IfSome, length, count_by, position, option_map, nat_le};
+ghost use Rattle.std.specs.Prelude.{◌≡◌, ◌+◌, ◌<◌, ◌≤◌, [], None, count_by, IfOk, OnOk};
+ghost use Rattle.mx_event.specs.Event.{event_id_of, room_id_of};
 ghost use Rattle.mx_records.specs.History.{History, position_after, with_input};
 ghost use Rattle.mx_records.specs.Counting.{counts_of};
-ghost use Rattle.mx_records.specs.Refusing.{is_named, most_inputs};
-ghost use Rattle.mx_records.specs.Snapshot.{snapshot_of};
-ghost use Rattle.mx_engine.specs.Messages.{is_unread_event};
-ghost use Rattle.mx_engine.specs.Planning.{IsMadeFor};
+ghost use Rattle.mx_records.specs.Refusing.{most_inputs};
+ghost use Rattle.mx_records.specs.Snapshot.{is_highlighted_in, is_notified_in, snapshot_of};
+ghost use Rattle.mx_room.specs.Change.{sets_of};
+ghost use Rattle.mx_thread.specs.Place.{place_in};
+ghost use Rattle.mx_engine.specs.Capacity.{HasCapacity, HasCapacityFor};
+ghost use Rattle.mx_engine.specs.Planning.{IsMadeFor, Suits};
 ghost use Rattle.mx_engine.specs.Preparing.{IsPrepared, RefusesInRange};
 
+use crate::judging::notified_users;
+use crate::notified::NotifiedEvent;
+use crate::rules::UserRules;
 use crate::{Plan, PrepareError};
 use mx_event::Event;
-use mx_json::{OutOfMemory, RoomId, UserId};
+use mx_glob::Scratch;
+use mx_json::{IdError, OutOfMemory, RoomId, UserId};
 use mx_records::{Counts, Input, MOST_INPUTS, Questions, Refusal};
+use mx_room::{Rooms, RoomsPlan};
+use mx_thread::Threads;
 use std::alloc::Global;
 use std::marker::Model;
 
 /// What push_server knows of its history, of at most 1,000,000 inputs. Contracts see the server's
-/// name, what the engine shows of its history, and for how many more events its memory suffices.
+/// name, what the engine shows of its history, and for which inputs its memory suffices.
 #[derive(Drop)]
 pub struct Engine {
-    server: String,
-    events: Vec<Event>,
+    rooms: Rooms,
+    rules: UserRules,
+    places: Threads,
+    notified: Vec<NotifiedEvent>,
+    inputs: u64,
+    scratch: Scratch,
 }
 
 impl Model for Engine {
@@ -29,19 +42,36 @@ impl Model for Engine {
 
     ghost use Rattle.mx_json.specs.contracts.value.Json as json;
     ghost use Rattle.std.specs.Coded.{codes};
+    ghost use Rattle.std.specs.FinMap as map;
+    ghost use Rattle.std.specs.FinSet as set;
 
-    ghost coded = { Prim.hlevel (codes, json.the_row.coded) };
+    ghost coded = { Prim.hlevel (codes, map.code, set.code, json.the_row.coded) };
 
-    ghost use Rattle.std.specs.Prelude.{◌-◌, ◌≤◌, length, string_bytes, vec_len, vec_capacity};
+    ghost use Rattle.std.specs.Prelude.{◌≡◌, ◌-◌, ◌≤◌, ℕ, List, length, IfSome, vec_len, vec_capacity};
     ghost use Rattle.mx_records.specs.Refusing.{most_inputs};
+    ghost use Rattle.mx_thread.specs.Place.{place_in};
 
     ghost view = { λ engine. record {
-      server = string_bytes engine.server;
-      shown = record { events = engine.events.items };
-      capacity = vec_capacity engine.events - vec_len engine.events;
+      server = engine.rooms.server;
+      shown = record {
+        inputs = engine.inputs;
+        places = engine.places.places;
+        rooms = engine.rooms.states;
+        notified = engine.notified.items;
+      };
+      capacity = record {
+        rooms = engine.rooms.capacity;
+        places = engine.places.capacity;
+        notified = vec_capacity engine.notified - vec_len engine.notified;
+      };
     } };
 
-    ghost invariant = { λ engine. length engine.events.items ≤ most_inputs };
+    ghost invariant = { λ engine.
+        (engine.rules ≡ engine.rooms.server)
+        × (engine.inputs ≤ most_inputs)
+        × (length engine.notified.items ≤ engine.inputs)
+        × ((id : List ℕ) → IfSome (place_in engine.places.places id)
+            (λ place. place.position ≤ most_inputs)) };
 }
 
 impl Engine {
@@ -55,8 +85,12 @@ impl Engine {
         ensures empty { IfOk result (λ engine. engine.shown ≡ snapshot_of server.now []) }
     {
         Ok(Engine {
-            server: String::from_str(alloc, server)?,
-            events: Vec::new(alloc),
+            rooms: Rooms::new(alloc, server)?,
+            rules: UserRules::new(alloc, server)?,
+            places: Threads::new(alloc),
+            notified: Vec::new(alloc),
+            inputs: 0,
+            scratch: Scratch::new(alloc)?,
         })
     }
 
@@ -64,11 +98,11 @@ impl Engine {
     pub fn server(&self) -> &str
         ensures { result.now ≡ self.now.server }
     {
-        self.server.as_str()
+        self.rooms.server()
     }
 
-    /// Takes all the memory of an input, and says whether the history refuses it. The engine stands
-    /// for what it stood for.
+    /// Takes all the memory of an input, judges it, and says whether the history refuses it. The
+    /// engine stands for what it stood for.
     ///
     /// # Errors
     ///
@@ -77,7 +111,7 @@ impl Engine {
     pub fn prepare(&mut self, alloc: Global, input: &Input) -> Result<Plan, PrepareError>
         ensures server { self.new.server ≡ self.old.server }
         ensures meaning { self.new.shown ≡ self.old.shown }
-        ensures capacity { OnOk result (0 < self.new.capacity) }
+        ensures capacity { IfOk result (λ plan. HasCapacity self.new.capacity plan.input) }
         ensures made { IfOk result (λ plan. IsMadeFor self.new.server self.new.shown plan) }
         ensures in_range { RefusesInRange result }
         ensures exact { (h : History) → self.old.shown ≡ snapshot_of self.old.server h
@@ -91,28 +125,64 @@ impl Engine {
     fn prepare_event(&mut self, alloc: Global, event: &Event) -> Result<Plan, PrepareError>
         ensures server { self.new.server ≡ self.old.server }
         ensures meaning { self.new.shown ≡ self.old.shown }
-        ensures capacity { OnOk result (0 < self.new.capacity) }
+        ensures capacity { IfOk result (λ plan. HasCapacity self.new.capacity plan.input) }
         ensures made { IfOk result (λ plan. IsMadeFor self.new.server self.new.shown plan) }
         ensures in_range { RefusesInRange result }
         ensures exact { (h : History) → self.old.shown ≡ snapshot_of self.old.server h
             → IsPrepared self.old.server h (Input.Event event.now) result }
     {
-        if let Some(position) = position_of(&self.events, event.event_id().as_text()) {
-            return Err(PrepareError::Refused(Refusal::KnownEvent(position)));
+        if let Some(place) = self.places.place_of(event.event_id()) {
+            return Err(PrepareError::Refused(Refusal::KnownEvent(place.position)));
         }
-        if is_full(&self.events) {
+        if self.inputs >= MOST_INPUTS {
             return Err(PrepareError::Refused(Refusal::Full));
         }
-        let event = event.copied(alloc)?;
-        let position = self.events.len() as u64 + 1;
-        self.events.reserve(1)?;
-        Ok(Plan { event, position })
+        let room = self.reserve(alloc, event)?;
+        Ok(self.plan(alloc, event, room)?)
+    }
+
+    // Takes the memory that the engine itself needs for an event, and plans what it sets in its room.
+    fn reserve(&mut self, alloc: Global, event: &Event) -> Result<RoomsPlan, OutOfMemory>
+        ensures server { self.new.server ≡ self.old.server }
+        ensures meaning { self.new.shown ≡ self.old.shown }
+        ensures capacity { OnOk result (HasCapacityFor self.new.capacity event.now) }
+        ensures plan { IfOk result
+            (λ plan. plan ≡ record { id = room_id_of event.now; sets = sets_of event.now }) }
+    {
+        remember_named(alloc, event, &mut self.rules)?;
+        self.places.reserve(alloc, event.event_id())?;
+        self.notified.reserve(1)?;
+        self.rooms.prepare(alloc, event)
+    }
+
+    // Plans to accept a new event, for which there is capacity.
+    fn plan(&mut self, alloc: Global, event: &Event, room: RoomsPlan) -> Result<Plan, OutOfMemory>
+        requires in_range { self.old.shown.inputs < most_inputs }
+        requires new { place_in self.old.shown.places (event_id_of event.now) ≡ None }
+        requires capacity { HasCapacityFor self.old.capacity event.now }
+        requires room { room ≡ record { id = room_id_of event.now; sets = sets_of event.now } }
+        ensures same { self.new ≡ self.old }
+        ensures event { IfOk result (λ plan. plan.input ≡ Input.Event event.now) }
+        ensures next { IfOk result (λ plan. plan.position ≡ self.old.shown.inputs + 1) }
+        ensures suits { IfOk result
+            (λ plan. Suits self.old.server self.old.shown event.now plan) }
+    {
+        let users = notified_users(
+            alloc,
+            event,
+            &self.rooms,
+            &room,
+            &self.rules,
+            &mut self.scratch,
+        )?;
+        let thread = self.places.of(alloc, event)?;
+        Plan::of(alloc, event, self.inputs + 1, room, thread, users)
     }
 
     /// Accepts the input of a plan that was made for this state, and answers its position (from 1).
     /// Takes no memory.
     pub fn apply(&mut self, plan: Plan) -> u64
-        requires capacity { 0 < self.old.capacity }
+        requires capacity { HasCapacity self.old.capacity plan.input }
         requires made { IsMadeFor self.old.server self.old.shown plan }
         ensures server { self.new.server ≡ self.old.server }
         ensures position { result ≡ plan.position }
@@ -122,8 +192,17 @@ impl Engine {
         ensures step { (h : History) → self.old.shown ≡ snapshot_of self.old.server h
             → self.new.shown ≡ snapshot_of self.new.server (with_input h plan.input) }
     {
-        let Plan { event, position } = plan;
-        self.events.push_reserved(event);
+        let Plan {
+            event,
+            room,
+            place,
+            notified,
+        } = plan;
+        let position = place.position;
+        self.places.note(event.event_id(), place);
+        self.rooms.apply(room);
+        self.notified.push_reserved(notified);
+        self.inputs = position;
         position
     }
 
@@ -134,10 +213,9 @@ impl Engine {
         ensures notify_in_range { result.notify ≤ most_inputs }
         ensures highlight_in_range { result.highlight ≤ most_inputs }
     {
-        let (user, room) = (user.as_text(), room.as_text());
         Counts {
-            notify: count_unread(&self.events, user, room) as u64,
-            highlight: 0,
+            notify: count_notified(&self.notified, user, room) as u64,
+            highlight: count_highlighted(&self.notified, user, room) as u64,
         }
     }
 }
@@ -152,50 +230,40 @@ impl Questions for Engine {
     }
 }
 
-/// Whether there are as many events as a history may have inputs.
-fn is_full(events: &[Event]) -> bool
-    ensures { result ≡ nat_le most_inputs (length events.now) }
+/// Remembers the rules of the user whom an event makes a member, if that is a local user.
+fn remember_named(
+    alloc: Global,
+    event: &Event,
+    rules: &mut UserRules,
+) -> Result<(), OutOfMemory>
+    ensures { rules.new ≡ rules.old }
 {
-    events.len() as u64 >= MOST_INPUTS
-}
-
-/// How many of the events are unread for the user in the room.
-fn count_unread(events: &[Event], user: &str, room: &str) -> usize
-    ensures { result ≡ count_by (is_unread_event user.now room.now) events.now }
-{
-    events
-        .iter()
-        .filter(|event| is_unread(event, user, room))
-        .count()
-}
-
-/// Whether the event is one of the room and notifies the user: a message notifies everybody but its
-/// sender.
-#[tactic(auto, unfolding(mx_records::specs::Judging::is_message_for))]
-fn is_unread(event: &Event, user: &str, room: &str) -> bool
-    ensures { result ≡ is_unread_event user.now room.now event.now }
-{
-    event.room_id().as_text() == room
-        && event.kind() == "m.room.message"
-        && event.sender().as_text() != user
-}
-
-/// Where the event with this id is in the list, from 1.
-fn position_of(events: &[Event], id: &str) -> Option<u64>
-    ensures { result ≡ option_map (λ index. index + 1) (position (is_named id.now) events.now) }
-{
-    match index_of(events, id) {
-        Some(index) => Some(index as u64 + 1),
-        None => None,
+    let Some((named, _)) = event.membership() else {
+        return Ok(());
+    };
+    match UserId::read(alloc, named) {
+        Ok(user) => rules.remember(alloc, &user),
+        Err(IdError::BadId) => Ok(()),
+        Err(IdError::OutOfMemory) => Err(OutOfMemory),
     }
 }
 
-/// Where the event with this id is in the list, from 0.
-fn index_of(events: &[Event], id: &str) -> Option<usize>
-    ensures within { IfSome result (λ index. index < length events.now) }
-    ensures found { result ≡ position (is_named id.now) events.now }
+/// How many of the events are of the room and notify the user.
+fn count_notified(events: &[NotifiedEvent], user: &UserId, room: &RoomId) -> usize
+    ensures { result ≡ count_by (is_notified_in room.now user.now) events.now }
 {
     events
         .iter()
-        .position(|event| event.event_id().as_text() == id)
+        .filter(|event| event.room == *room && event.notice(user).is_some())
+        .count()
+}
+
+/// How many of the events are of the room and highlighted for the user.
+fn count_highlighted(events: &[NotifiedEvent], user: &UserId, room: &RoomId) -> usize
+    ensures { result ≡ count_by (is_highlighted_in room.now user.now) events.now }
+{
+    events
+        .iter()
+        .filter(|event| event.room == *room && event.notice(user).unwrap_or(false))
+        .count()
 }

@@ -1,3 +1,6 @@
+ghost use Rattle.std.specs.Prelude.{◌≡◌};
+ghost use Rattle.std.specs.FinMap as map;
+
 use mx_json::{RoomId, UserId};
 use std::marker::Model;
 
@@ -24,4 +27,17 @@ impl Model for NotifiedEvent {
       room = notified.room;
       users = map.from_entries notified.users.items;
     } };
+}
+
+impl NotifiedEvent {
+    /// Whether the event is highlighted for the user, where it notifies the user.
+    pub fn notice(&self, user: &UserId) -> Option<bool>
+        ensures { result ≡ map.get self.now.users user.now }
+    {
+        let found = self.users.iter().find(|notified| notified.0 == *user);
+        match found {
+            Some(notified) => Some(notified.1),
+            None => None,
+        }
+    }
 }

@@ -1,5 +1,4 @@
-ghost use Rattle.std.specs.Prelude.{◌≡◌, IfOk, IfSome, IsSome};
-ghost use Rattle.mx_json.specs.Ids.{localpart_of};
+ghost use Rattle.std.specs.Prelude.{◌≡◌, IfOk, IfSome};
 ghost use Rattle.mx_records.specs.Judging.{verdict_in};
 ghost use Rattle.mx_rule.specs.Predefined.{predefined_rules};
 
@@ -47,12 +46,11 @@ impl UserRules {
         })
     }
 
-    /// Remembers a local user.
+    /// Remembers a user, if it's a local one.
     pub fn remember(&mut self, alloc: Global, user: &UserId) -> Result<(), OutOfMemory>
-        requires { IsSome (localpart_of self.old user.now) }
         ensures { self.new ≡ self.old }
     {
-        if self.kept.contains_key(user) {
+        if self.kept.contains_key(user) || user.localpart_on(self.server.as_str()).is_none() {
             return Ok(());
         }
         let rules = predefined(alloc, user, self.server.as_str())?;

@@ -16,7 +16,7 @@ any_alike : (f g : List ℕ → Bool) → ((x : List ℕ) → f x ≡ g x) → (
 any_alike f g alike [] = refl
 any_alike f g alike (x ∷ xs) = rw (alike x, any_alike f g alike xs)
 
-has_key : {X : Type 0} (m : Texts X) (q : List ℕ) → is_some (get m q) ≡ list_any (bytes_eq q) (keys m)
+pub has_key : {X : Type 0} (m : Texts X) (q : List ℕ) → is_some (get m q) ≡ list_any (bytes_eq q) (keys m)
 has_key m q = contains_key-keys m q ∙ any_alike (eq_by_cmp (slice_cmp nat_cmp) q) (bytes_eq q) (ties q) (keys m)
 
 -- whether a user of whom this is true is joined
