@@ -1,5 +1,5 @@
 -- What is judged of an event is one thing: the function gives what the relation says, and nothing else meets it.
-use Rattle.std.proofs.Common.{◌≡◌, ℕ, Bool, true, false, if◌then◌else◌, List, [], ◌∷◌, Option, Some, None, ◌⊎◌, inl, inr, refl, sym, ap, ◌∙◌, subst, IsSomeAnd, MatchBool}
+use Rattle.std.proofs.Common.{◌≡◌, ℕ, Bool, true, false, if◌then◌else◌, List, [], ◌∷◌, Option, Some, None, ◌⊎◌, inl, inr, refl, ap, IsSomeAnd, MatchBool}
 use Rattle.std.specs.Bool.{Decides}
 use Rattle.std.proofs.lemmas.Bool.Decides.{not_from_Decides}
 use Rattle.mx_cond.specs.Facts.{EventFacts}
@@ -7,7 +7,6 @@ use Rattle.mx_rule.specs.declared.verdict.Verdict.{Verdict}
 use Rattle.mx_rule.specs.Actions.{verdict_of}
 use Rattle.mx_rule.specs.Deciding.{may_decide}
 use Rattle.mx_rule.specs.Judged.{IsJudged, IsVerdict, is_judged, judged, verdict_by}
-use Rattle.mx_rule.specs.Rule.{MayDecide}
 use Rattle.mx_rule.specs.Ruleset.{Placed, PushRuleset, flat}
 use Rattle.mx_rule.proofs.Deciding.{may_decide-Decides}
 
