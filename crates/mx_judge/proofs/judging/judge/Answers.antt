@@ -1,5 +1,5 @@
-use Rattle.std.proofs.Common.{◌≡◌, ◌∙◌, sym, subst, true, false}
-use Rattle.mx_rule.specs.Judged.{IsVerdict, is_judged}
+use Rattle.std.proofs.Common.{◌∙◌, sym, subst}
+use Rattle.mx_rule.specs.Judged.{IsVerdict}
 use Rattle.mx_rule.specs.Ruleset.{flat}
 use Rattle.mx_rule.proofs.JudgedLemmas.{judged-none, judged-some}
 use Rattle.mx_cond.specs.Facts.{EventFacts}
