@@ -1,14 +1,14 @@
 -- Whom an event notifies, found among the joined local users before it and the one whom it makes a member.
-use Rattle.std.proofs.Common.{◌≡◌, ℕ, ◌+◌, ◌<◌, Bool, true, false, cond, not, ◌&&◌, ◌||◌, List, [], ◌∷◌, ◌++◌, length, get_or, take, codes, Option, Some, None, Ok, Err, ◌⊎◌, inl, inr, ⊎_elim, is_some, option_map, option_and_then, refl, ap, ap₂, subst, sym, ◌∙◌}
+use Rattle.std.proofs.Common.{◌≡◌, ℕ, ◌+◌, ◌<◌, Bool, true, false, cond, not, ◌&&◌, ◌||◌, List, [], ◌∷◌, ◌++◌, length, get_or, take, codes, Option, Some, None, Ok, Err, ◌⊎◌, inl, inr, is_some, option_map, option_and_then, refl, ap, ap₂, subst, sym, ◌∙◌}
 use Rattle.std.specs.Cmp.Lexicographic.{nat_list_cmp_total, slice_cmp}
 use Rattle.std.specs.FinMap.{from_entries, get, get-from_entries, keys}
 use Rattle.std.specs.FinMap as map
-use Rattle.std.specs.List.{filter_map, find, list_any}
+use Rattle.std.specs.List.{find, list_any}
 use Rattle.std.specs.Option.{option_map_or}
 use Rattle.std.specs.Ordering.{nat_cmp}
 use Rattle.std.specs.Str.{bytes_eq}
 use Rattle.std.proofs.lemmas.Bool.{cases_Bool}
-use Rattle.std.proofs.lemmas.List.{append-nil, take_more}
+use Rattle.std.proofs.lemmas.List.{take_more}
 use Rattle.std.proofs.lemmas.List.Elements.{filter_map-append}
 use Rattle.std.proofs.lemmas.List.Folds.{list_any-append}
 use Rattle.mx_json.specs.declared.value.Json.{Json}
@@ -29,20 +29,7 @@ use Rattle.mx_records.specs.Judging.{notice_in, notice_of, notices_in}
 use Rattle.mx_records.proofs.NoticeLemmas.{notices-covered, unjudged}
 use Rattle.mx_engine.specs.Noticing.{IsListed, beside, said_of}
 
--- ---- what is said of users, one by one
-
-module _ (f : List ℕ → Option Bool) (user : List ℕ) (before : List (List ℕ × Bool)) where
-  pub said-nothing : f user ≡ None → before ≡ before ++ said_of f (user ∷ [])
-  said-nothing none =
-      sym (append-nil before)
-      ∙ ap (λ o. before ++ filter_map (λ (x : Option (List ℕ × Bool)). x) (option_map (λ said. (user, said)) o ∷ []))
-      (sym none)
-
-  pub said-one : (said : Bool) → f user ≡ Some said
-      → before ++ (user, said) ∷ [] ≡ before ++ said_of f (user ∷ [])
-  said-one said is =
-      ap (λ o. before ++ filter_map (λ (x : Option (List ℕ × Bool)). x) (option_map (λ said. (user, said)) o ∷ []))
-      (sym is)
+-- ---- what is said of users, one more at a time
 
 pub said-more : (f : List ℕ → Option Bool) (users : List (List ℕ)) (i : ℕ) (user : List ℕ) → i < length users
     → get_or users i user ≡ user

@@ -36,9 +36,9 @@ keeps-remembered server old new user rules keeps is updated q =
 
 -- ---- what the rules say
 
-remote_fails : (a b rest : Bool) → b ≡ false → (a && b && rest) ≡ false
-remote_fails true b rest fails = ap (λ b. b && rest) fails
-remote_fails false b rest fails = refl
+remote_fails : (a b c d : Bool) → b ≡ false → (a && b && c && d) ≡ false
+remote_fails true b c d fails = ap (λ b. b && c && d) fails
+remote_fails false b c d fails = refl
 
 module _ (server : List ℕ) (room : RoomState) (event : Json) (user : List ℕ) where
   pub verdict-remote : is_some (localpart_of server user) ≡ false
@@ -46,8 +46,8 @@ module _ (server : List ℕ) (room : RoomState) (event : Json) (user : List ℕ)
   verdict-remote remote =
       sym (unjudged server (membership_at room user) user (predefined_rules server user) (facts_of event user room)
       (remote_fails (is_user_id user) (is_some (localpart_of server user))
-      (not (bytes_eq (sender_of event) user)
-      && (bytes_eq (membership_at room user) (codes "join") || invites event user)) remote))
+      (not (bytes_eq (sender_of event) user))
+      (bytes_eq (membership_at room user) (codes "join") || invites event user) remote))
 
   pub verdict-by : {E : Type 0} (name : List ℕ) (rules : PushRuleset) (said : Result (Option Verdict) E) → name ≡ server
       → rules ≡ predefined_rules name user
