@@ -117,7 +117,8 @@ untouched (Some user) member members q apart =
     get-put members user member q ∙ ap (λ b. cond b (Some member) (get members q)) apart
 
 as_joined : (o : Option Member)
-    → bytes_eq (option_map_or (λ (m : Member). m.membership) o (codes "leave")) (codes "join") ≡ option_map_or joins o false
+    → bytes_eq (option_map_or (λ (m : Member). m.membership) o (codes "leave")) (codes "join")
+    ≡ option_map_or joins o false
 as_joined None = refl
 as_joined (Some member) = refl
 
