@@ -9,9 +9,9 @@ use Rattle.mx_records.specs.declared.input.Input.{Input}
 use Rattle.mx_records.specs.declared.input.Input.TheVariants.{Event}
 
 pub record Capacity : Type 0 where
-  pub rooms : set.FinSet (slice_cmp nat_cmp)   -- the rooms for whose next event it suffices
+  pub rooms : set.FinSet (slice_cmp nat_cmp)  -- the rooms for whose next event it suffices
   pub places : set.FinSet (slice_cmp nat_cmp)  -- the event ids for whose places it suffices
-  pub notified : ℕ                             -- for how many events it suffices to keep whom they notify
+  pub notified : ℕ  -- for how many events it suffices to keep whom they notify
 
 -- the memory suffices for an event: for its room, its place, and those whom it notifies
 pub record HasCapacityFor (capacity : Capacity) (event : Json) : Type 0 where

@@ -71,7 +71,7 @@ impl Model for Engine {
         × (engine.inputs ≤ most_inputs)
         × (length engine.notified.items ≤ engine.inputs)
         × ((id : List ℕ) → IfSome (place_in engine.places.places id)
-            (λ place. place.position ≤ most_inputs)) };
+        (λ place. place.position ≤ most_inputs)) };
 }
 
 impl Engine {
@@ -231,11 +231,7 @@ impl Questions for Engine {
 }
 
 /// Remembers the rules of the user whom an event makes a member, if that is a local user.
-fn remember_named(
-    alloc: Global,
-    event: &Event,
-    rules: &mut UserRules,
-) -> Result<(), OutOfMemory>
+fn remember_named(alloc: Global, event: &Event, rules: &mut UserRules) -> Result<(), OutOfMemory>
     ensures { rules.new ≡ rules.old }
 {
     let Some((named, _)) = event.membership() else {

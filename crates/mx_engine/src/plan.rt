@@ -64,8 +64,12 @@ impl Plan {
         users: Vec<(UserId, bool)>,
     ) -> Result<Plan, OutOfMemory>
         requires { room ≡ record { id = room_id_of event.now; sets = sets_of event.now } }
-        ensures { IfOk result (λ plan. plan ≡ record { input = EventInput event.now; position = position;
-            thread = thread; users = map.from_entries users.items }) }
+        ensures { IfOk result (λ plan. plan ≡ record {
+          input = EventInput event.now;
+          position = position;
+          thread = thread;
+          users = map.from_entries users.items;
+        }) }
     {
         let place = Place {
             position,

@@ -34,7 +34,7 @@ pub fn judge(
         rules.now (facts_of event.now owner.now view.now)) }
     ensures exact { IfOk result (λ answer. answer
         ≡ judged server.now owner.now (membership_at view.now owner.now) rules.now
-            (facts_of event.now owner.now view.now)) }
+        (facts_of event.now owner.now view.now)) }
 {
     if !is_judged(event, owner, server, view) {
         return Ok(None);

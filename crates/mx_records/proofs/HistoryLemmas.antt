@@ -80,10 +80,10 @@ snapshot_of-push server h event =
     let inputs = inputs_of-push h (Event event) in
     let places = places_of-push h event in
     let rooms : rooms_of (events_of (with_input h (Event event)))
-        ≡ with_room (room_id_of event) (sets_of event) (rooms_of (events_of h)) =
-        ap rooms_of (events_of-push h event) ∙ rooms_of-push (events_of h) event in
+    ≡ with_room (room_id_of event) (sets_of event) (rooms_of (events_of h)) =
+    ap rooms_of (events_of-push h event) ∙ rooms_of-push (events_of h) event in
     let notified : map (notified_by server) (events (with_input h (Event event)))
-        ≡ map (notified_by server) (events h) ++ notified_by server (next_event h event) ∷ [] =
-        ap (map (notified_by server)) (events-push h event)
-        ∙ map-append (notified_by server) (events h) (next_event h event ∷ []) in
+    ≡ map (notified_by server) (events h) ++ notified_by server (next_event h event) ∷ [] =
+    ap (map (notified_by server)) (events-push h event)
+    ∙ map-append (notified_by server) (events h) (next_event h event ∷ []) in
     λ i. record { inputs = inputs i; places = places i; rooms = rooms i; notified = notified i }

@@ -1,5 +1,5 @@
 -- Whom an event notifies is a member of its room; and what is unread, read off those who were notified.
-use Rattle.std.proofs.Common.{◌≡◌, ℕ, ◌+◌, Bool, true, false, cond, not, ◌&&◌, ◌||◌, List, [], ◌∷◌, length, map, filter, codes, Option, Some, None, ◌⊎◌, inl, inr, is_some, option_map, option_and_then, unwrap_or, refl, ap, subst, sym, ◌∙◌}
+use Rattle.std.proofs.Common.{◌≡◌, ℕ, suc, Bool, true, false, cond, not, ◌&&◌, ◌||◌, List, [], ◌∷◌, length, map, filter, codes, Option, Some, None, ◌⊎◌, inl, inr, is_some, option_map, option_and_then, unwrap_or, refl, ap, subst, sym, ◌∙◌}
 use Rattle.std.specs.FinMap.{get, insert, keys}
 use Rattle.std.specs.List.{count_by, list_any}
 use Rattle.std.specs.Option.{option_map_or}
@@ -21,8 +21,8 @@ use Rattle.mx_room.proofs.JoinedLemmas.{has_key}
 use Rattle.mx_room.proofs.StateLemmas.{room_of-push}
 use Rattle.mx_room.proofs.TextsLemmas.{IsCovered, bytes_eq-flip, get-put, get-table}
 use Rattle.mx_rule.specs.declared.verdict.Verdict.{Verdict}
-use Rattle.mx_rule.specs.Judged.{invites, is_judged, judged}
-use Rattle.mx_rule.specs.Ruleset.{PushRuleset}
+use Rattle.mx_rule.specs.Judged.{invites, is_judged, judged, verdict_by}
+use Rattle.mx_rule.specs.Ruleset.{PushRuleset, flat}
 use Rattle.mx_records.specs.Counting.{counts_of, is_in, is_unread, unread}
 use Rattle.mx_records.specs.History.{History, Happening, events}
 use Rattle.mx_records.specs.Judging.{highlights, notice_in, notice_of, notices_in, notifies, rules_of, verdict_for, verdict_in}
@@ -54,7 +54,7 @@ last_fails false b c d fails = refl
 unjudged : (server membership user : List ℕ) (rules : PushRuleset) (facts : EventFacts)
     → is_judged server user membership facts.event ≡ false → judged server user membership rules facts ≡ None
 unfolding judged
-unjudged server membership user rules facts is = ap (λ b. cond b (Some _) None) is
+unjudged server membership user rules facts is = ap (λ b. cond b (Some (verdict_by facts (flat rules))) None) is
 
 module _ (server : List ℕ) (rules : List ℕ → PushRuleset) (before : RoomState) (event : Json) (q : List ℕ) where
   abbrev room : RoomState
@@ -124,10 +124,20 @@ is_seen true (Some verdict) = by verdict.notify
     by true = refl
     by false = refl
 
-count-alike : {A B : Type 0} (f : A → B) (p : B → Bool) (q : A → Bool) → ((x : A) → p (f x) ≡ q x) → (xs : List A)
-    → count_by p (map f xs) ≡ count_by q xs
-count-alike f p q alike [] = refl
-count-alike f p q alike (x ∷ xs) = rw (alike x, count-alike f p q alike xs)
+one_more : {A B : Type 0} (test : Bool) (x : A) (y : B) (xs : List A) (ys : List B) → length xs ≡ length ys
+    → length (cond test (x ∷ xs) xs) ≡ length (cond test (y ∷ ys) ys)
+one_more true x y xs ys same = ap (λ n. suc n) same
+one_more false x y xs ys same = same
+
+module _ {A B : Type 0} (f : A → B) (p : B → Bool) (q : A → Bool) (alike : (x : A) → p (f x) ≡ q x) where
+  length-alike : (xs : List A) → length (filter p (map f xs)) ≡ length (filter q xs)
+  length-alike [] = refl
+  length-alike (x ∷ xs) =
+      ap (λ b. length (cond b (f x ∷ filter p (map f xs)) (filter p (map f xs)))) (alike x)
+      ∙ one_more (q x) (f x) x (filter p (map f xs)) (filter q xs) (length-alike xs)
+
+  count-alike : (xs : List A) → count_by p (map f xs) ≡ count_by q xs
+  count-alike xs = sym (length-filter p (map f xs)) ∙ length-alike xs ∙ length-filter q xs
 
 module _ (server user room : List ℕ) where
   is_notified-unread : (x : Happening)
@@ -149,13 +159,13 @@ module _ (server user room : List ℕ) where
   unfolding counts_of snapshot_of
   counts_in-shown h shown is =
       let notify : count_by (is_notified_in room user) (map (notified_by server) (events h))
-          ≡ length (unread server h user room) =
-          count-alike (notified_by server) (is_notified_in room user) (is_unread server user room) is_notified-unread
-          (events h)
-          ∙ sym (length-filter (is_unread server user room) (events h)) in
+      ≡ length (unread server h user room) =
+      count-alike (notified_by server) (is_notified_in room user) (is_unread server user room) is_notified-unread
+      (events h)
+      ∙ sym (length-filter (is_unread server user room) (events h)) in
       let highlight : count_by (is_highlighted_in room user) (map (notified_by server) (events h))
-          ≡ count_by (highlights server user) (unread server h user room) =
-          count-alike (notified_by server) (is_highlighted_in room user)
-          (λ x. is_unread server user room x && highlights server user x) is_highlighted-unread (events h)
-          ∙ sym (count_by-filter (is_unread server user room) (highlights server user) (events h)) in
+      ≡ count_by (highlights server user) (unread server h user room) =
+      count-alike (notified_by server) (is_highlighted_in room user)
+      (λ x. is_unread server user room x && highlights server user x) is_highlighted-unread (events h)
+      ∙ sym (count_by-filter (is_unread server user room) (highlights server user) (events h)) in
       ap (λ (s : Snapshot). counts_in s.notified user room) is ∙ (λ i. record { notify = notify i; highlight = highlight i })

@@ -29,9 +29,9 @@ notified_by server happening = record {
 
 -- What is known of a history.
 pub record Snapshot : Type 0 where
-  pub inputs : ℕ                -- how many inputs it has
-  pub places : Places           -- where its events are
-  pub rooms : Texts RoomState   -- the rooms that have an event
+  pub inputs : ℕ  -- how many inputs it has
+  pub places : Places  -- where its events are
+  pub rooms : Texts RoomState  -- the rooms that have an event
   pub notified : List Notified  -- its events with those whom they notify, oldest first
 
 -- what a state of this server knows after this history

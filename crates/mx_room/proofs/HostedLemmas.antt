@@ -1,7 +1,7 @@
 -- What is shown of the rooms that are kept, and what a new room or a changed one changes there.
-use Rattle.std.proofs.Common.{◌≡◌, ℕ, ◌<◌, Bool, true, false, cond, ◌||◌, List, [], ◌∷◌, Option, Some, None, IfSome, is_some, option_and_then, option_map, unwrap_or, refl, sym, subst, ap, ◌∙◌, arith}
+use Rattle.std.proofs.Common.{◌≡◌, ℕ, Bool, true, false, cond, List, [], ◌∷◌, Option, Some, None, IfSome, is_some, option_and_then, option_map, unwrap_or, refl, sym, subst, ap, ◌∙◌}
 use Rattle.std.specs.Cmp.Lexicographic.{nat_list_cmp_total, nat_list_eq_equiv, slice_cmp}
-use Rattle.std.specs.FinMap.{find, from_entries, get, get-from_entries, insert}
+use Rattle.std.specs.FinMap.{find, get, get-from_entries, insert}
 use Rattle.std.specs.FinSet as set
 use Rattle.std.specs.List.{IsDistinct, cons_option, filter, filter_map, list_any}
 use Rattle.std.specs.Map.{keys_of, lookup}
@@ -16,7 +16,6 @@ use Rattle.mx_room.specs.Change.{Sets, with_sets}
 use Rattle.mx_room.specs.Hosted.{AreHosted, HostedRooms, IsHosted, IsListing, KeepsRooms, is_ready, known_state, ready_in, states_in}
 use Rattle.mx_room.specs.Rooms.{is_local_member, room_at, with_room}
 use Rattle.mx_room.specs.State.{RoomState, room_of}
-use Rattle.mx_room.specs.Texts.{Texts}
 use Rattle.mx_room.specs.declared.hosted.HostedRoom.{HostedRoom}
 use Rattle.mx_room.proofs.ListingLemmas.{listing-none}
 use Rattle.mx_room.proofs.TextsLemmas.{bytes_eq-flip, bytes_eq-itself, bytes_eq-same, get-put, same_texts, ties}

@@ -14,7 +14,7 @@ use Rattle.mx_room.specs.Change.{Sets, with_member, with_sets}
 use Rattle.mx_room.specs.Hosted.{IsListing, user_of}
 use Rattle.mx_room.specs.Members.{has_joined, joins}
 use Rattle.mx_room.specs.Rooms.{is_local, is_local_member}
-use Rattle.mx_room.specs.State.{RoomState, room_of, last_of, state_of}
+use Rattle.mx_room.specs.State.{RoomState, room_of}
 use Rattle.mx_room.specs.Texts.{Texts, table}
 use Rattle.mx_room.specs.declared.member.Member.{Member}
 use Rattle.mx_room.proofs.TextsLemmas.{bytes_eq-itself, bytes_eq-same, get-put}

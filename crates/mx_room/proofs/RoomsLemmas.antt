@@ -1,7 +1,7 @@
 -- How the rooms of a list of events step with one more event, and what they have of a room.
 use Rattle.std.proofs.Common.{◌≡◌, ℕ, Bool, true, false, cond, ◌||◌, List, [], ◌∷◌, ◌++◌, map, Option, Some, None, ◌⊎◌, inl, inr, is_some, unwrap_or, refl, sym, ap, ◌∙◌}
 use Rattle.std.specs.FinMap.{empty, get}
-use Rattle.std.specs.List.{filter, list_any}
+use Rattle.std.specs.List.{list_any}
 use Rattle.std.specs.Str.{bytes_eq}
 use Rattle.std.proofs.lemmas.List.{append-nil}
 use Rattle.std.proofs.lemmas.List.Elements.{filter-append}
@@ -9,7 +9,7 @@ use Rattle.mx_json.specs.declared.value.Json.{Json}
 use Rattle.mx_json.specs.Ids.{is_user_id, localpart_of}
 use Rattle.mx_event.specs.Event.{room_id_of}
 use Rattle.mx_room.specs.Change.{sets_of, with_sets}
-use Rattle.mx_room.specs.Rooms.{events_in, is_local, room_at, rooms_of, some_room, with_room}
+use Rattle.mx_room.specs.Rooms.{PlannedRoom, events_in, is_local, room_at, rooms_of, some_room, with_room}
 use Rattle.mx_room.specs.State.{RoomState, room_of}
 use Rattle.mx_room.specs.Texts.{Texts, table}
 use Rattle.mx_room.proofs.StateLemmas.{room_of-push}
@@ -91,6 +91,13 @@ rooms_of-push events event =
     (map room_id_of (events ++ event ∷ [])) (room_id_of event)
     (Some (with_sets (sets_of event) (room_at (rooms_of events) (room_id_of event)))) (states_covered events)
     (states_covered (events ++ event ∷ [])) (state_in-push events event)
+
+-- a plan that was made of an event, carried out
+pub rooms_of-planned : (rooms now : Texts RoomState) (plan : PlannedRoom) (events : List Json) (event : Json)
+    → now ≡ with_room plan.id plan.sets rooms → rooms ≡ rooms_of events
+    → plan ≡ record { id = room_id_of event; sets = sets_of event } → now ≡ rooms_of (events ++ event ∷ [])
+rooms_of-planned rooms now plan events event change before planned =
+    change ∙ (λ i. with_room (planned i).id (planned i).sets (before i)) ∙ sym (rooms_of-push events event)
 
 pub rooms_of-none : rooms_of [] ≡ empty
 unfolding rooms_of table

@@ -40,11 +40,7 @@ impl HostedRoom {
     }
 
     // Takes all memory that an event of this room needs, and plans what it will set.
-    pub(crate) fn prepare(
-        &mut self,
-        alloc: Global,
-        event: &Event,
-    ) -> Result<RoomsPlan, OutOfMemory>
+    pub(crate) fn prepare(&mut self, alloc: Global, event: &Event) -> Result<RoomsPlan, OutOfMemory>
         ensures state { self.new.room.state ≡ self.old.room.state }
         ensures users { self.new.local.users ≡ self.old.local.users }
         ensures known { self.new.known ≡ self.old.known }
@@ -77,7 +73,7 @@ fn set_user(local: &mut LocalMembers, server: &str, user: Option<UserId>, joined
     requires { length local.old.users < local.old.capacity }
     ensures { (q : List ℕ) → list_any (bytes_eq q) local.new.users
         ≡ (if option_map_or (λ user. is_some (localpart_of server.now user) && bytes_eq q user)
-            user false then joined else list_any (bytes_eq q) local.old.users) }
+        user false then joined else list_any (bytes_eq q) local.old.users) }
 {
     let Some(user) = user else {
         return;

@@ -1,8 +1,9 @@
-ghost use Rattle.std.specs.Prelude.{◌≡◌, ℕ, List, true, [], is_some, IfOk, OnOk};
+ghost use Rattle.std.specs.Prelude.{◌≡◌, ◌++◌, ◌∷◌, ℕ, List, true, [], is_some, IfOk, OnOk};
 ghost use Rattle.std.specs.FinSet as set;
 ghost use Rattle.std.specs.List.{IsDistinct, list_any};
 ghost use Rattle.std.specs.Map.{lookup};
 ghost use Rattle.std.specs.Str.{bytes_eq};
+ghost use Rattle.mx_json.specs.declared.value.Json.{Json};
 ghost use Rattle.mx_event.specs.Event.{room_id_of};
 ghost use Rattle.mx_room.specs.Change.{sets_of, with_sets};
 ghost use Rattle.mx_room.specs.Hosted.{AreHosted, KeepsRooms, ready_in, states_in};
@@ -20,7 +21,8 @@ use std::marker::Model;
 /// The rooms of one homeserver, seen as its name, the states of the rooms that have an event, and
 /// the rooms for whose next event there is capacity.
 ///
-/// Each call is one or two look-ups; none walks the rooms, or a room's members.
+/// Each call is at most three look-ups by id. None walks the rooms or a room's members; applying an
+/// event that names a local user walks the room's joined local users.
 #[derive(Drop)]
 pub struct Rooms {
     server: String,
@@ -115,6 +117,9 @@ impl Rooms {
         requires { set.contains self.old.capacity plan.id ≡ true }
         ensures server { self.new.server ≡ self.old.server }
         ensures states { self.new.states ≡ with_room plan.id plan.sets self.old.states }
+        ensures step { (events : List Json) (event : Json) → self.old.states ≡ rooms_of events
+            → plan ≡ record { id = room_id_of event; sets = sets_of event }
+            → self.new.states ≡ rooms_of (events ++ event ∷ []) }
     {
         let RoomsPlan { id, room, user } = plan;
         match self.rooms.get_mut(&id) {

@@ -1,5 +1,5 @@
 -- Each test of `specs/Deciding.antt` is true exactly where the relation that it stands for holds.
-use Rattle.std.proofs.Common.{◌≡◌, ℕ, zero, suc, ◌+◌, ◌<◌, ◌≤◌, ◌≤ℤ◌, ℤ, int_le, int_eq, Bool, true, false, not, ◌==◌, nat_le, nat_lt, ◌&&◌, if◌then◌else◌, T, List, [], ◌∷◌, length, drop, Option, Some, None, refl, sym, ap, ◌∙◌, subst, arith, All, Any, HoldsAt, IsSomeAnd, IsTrue, MatchBool, slice_get, slice_index_or, slice_range, option_and_then}
+use Rattle.std.proofs.Common.{◌≡◌, ℕ, suc, ◌<◌, ◌≤◌, ◌≤ℤ◌, ℤ, int_le, int_eq, Bool, true, false, not, ◌==◌, nat_le, ◌&&◌, if◌then◌else◌, T, List, [], ◌∷◌, length, drop, Option, Some, None, refl, sym, ap, ◌∙◌, subst, arith, Any, HoldsAt, IsSomeAnd, IsTrue, MatchBool, slice_get, slice_index_or, slice_range, option_and_then}
 use Rattle.std.specs.Bool.{Decides, beq}
 use Rattle.std.specs.Cmp.{booleans_Decides}
 use Rattle.std.specs.Int.Signed.{le_z_yes}
@@ -14,7 +14,7 @@ use Rattle.mx_json.specs.declared.value.Json.{Json, Null as NullJson}
 use Rattle.mx_json.specs.Folded.{folded}
 use Rattle.mx_json.specs.Json.{text_of}
 use Rattle.mx_json.specs.Path.{look}
-use Rattle.mx_glob.specs.Glob.{After, AfterAny, Matches, SomeSuffix, question, star}
+use Rattle.mx_glob.specs.Glob.{After, AfterAny, Matches, question, star}
 use Rattle.mx_glob.specs.Words.{HasWord, IsWordAt, WordMatches, character_before, is_outside}
 use Rattle.mx_event.specs.Event.{room_id_of, sender_of}
 use Rattle.mx_cond.specs.declared.count.Comparison.{Comparison}

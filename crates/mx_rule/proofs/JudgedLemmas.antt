@@ -1,5 +1,5 @@
 -- What is judged of an event is one thing: the function gives what the relation says, and nothing else meets it.
-use Rattle.std.proofs.Common.{◌≡◌, ℕ, Bool, true, false, if◌then◌else◌, List, [], ◌∷◌, Option, Some, None, ◌⊎◌, inl, inr, refl, sym, ap, ◌∙◌, subst, IsSomeAnd, MatchBool}
+use Rattle.std.proofs.Common.{◌≡◌, ℕ, Bool, true, false, if◌then◌else◌, List, [], ◌∷◌, Option, Some, None, ◌⊎◌, inl, inr, refl, sym, ap, ◌∙◌, IsSomeAnd, MatchBool}
 use Rattle.std.specs.Bool.{Decides}
 use Rattle.std.proofs.lemmas.Bool.Decides.{not_from_Decides}
 use Rattle.mx_cond.specs.Facts.{EventFacts}
@@ -7,7 +7,6 @@ use Rattle.mx_rule.specs.declared.verdict.Verdict.{Verdict}
 use Rattle.mx_rule.specs.Actions.{verdict_of}
 use Rattle.mx_rule.specs.Deciding.{may_decide}
 use Rattle.mx_rule.specs.Judged.{IsJudged, IsVerdict, is_judged, judged, verdict_by}
-use Rattle.mx_rule.specs.Rule.{MayDecide}
 use Rattle.mx_rule.specs.Ruleset.{Placed, PushRuleset, flat}
 use Rattle.mx_rule.proofs.Deciding.{may_decide-Decides}
 
@@ -74,3 +73,24 @@ unfolding judged
 judged-IsJudged server owner membership_after rules facts =
     is_judged_by (is_judged server owner membership_after facts.event) (IsVerdict facts (flat rules))
     (verdict_by facts (flat rules)) (verdict_by-IsVerdict facts (flat rules))
+
+-- ---- in each of the two cases
+
+-- what is said by whether the event is judged
+abbrev said_where : PushRuleset → EventFacts → Bool → Option Verdict
+said_where rules facts test = if test then Some (verdict_by facts (flat rules)) else None
+
+pub judged-none : (server owner membership_after : List ℕ) (rules : PushRuleset) (facts : EventFacts)
+    → is_judged server owner membership_after facts.event ≡ false
+    → None ≡ judged server owner membership_after rules facts
+unfolding judged
+judged-none server owner membership_after rules facts never = ap (said_where rules facts) (sym never)
+
+pub judged-some : (server owner membership_after : List ℕ) (rules : PushRuleset) (facts : EventFacts)
+    (verdict : Verdict)
+    → is_judged server owner membership_after facts.event ≡ true → IsVerdict facts (flat rules) verdict
+    → Some verdict ≡ judged server owner membership_after rules facts
+unfolding judged
+judged-some server owner membership_after rules facts verdict here is =
+    ap (λ (v : Verdict). Some v) (IsVerdict-verdict_by facts (flat rules) verdict is)
+    ∙ ap (said_where rules facts) (sym here)

@@ -1,7 +1,6 @@
-use Rattle.std.proofs.Common.{◌≡◌, ℕ, List, true, IsSome, refl, sym, subst, ap, ◌∙◌}
+use Rattle.std.proofs.Common.{◌≡◌, ℕ, List, true, IsSome, refl, sym, subst}
 use Rattle.std.specs.FinSet as set
 use Rattle.std.proofs.lemmas.Result.{on_ok_weaker}
-use Rattle.mx_event.specs.Event.{room_id_of}
 use Rattle.mx_room.specs.Hosted.{is_ready, ready_in}
 use Rattle.mx_room.proofs.HostedLemmas.{keeps-prepared, ready-now}
 use Rattle.mx_room.proofs.rooms.prepare_in.Goals as goal

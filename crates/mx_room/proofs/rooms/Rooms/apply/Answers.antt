@@ -1,13 +1,13 @@
-use Rattle.std.proofs.Common.{◌≡◌, ℕ, List, Some, true, cond, is_some, IsSome, refl, sym, subst, ap, ◌∙◌}
+use Rattle.std.proofs.Common.{◌≡◌, ℕ, List, true, is_some, IsSome, refl, sym, subst, ap, ◌∙◌}
 use Rattle.std.specs.FinSet as set
-use Rattle.std.specs.Map.{lookup}
-use Rattle.std.specs.Str.{bytes_eq}
 use Rattle.std.specs.String.{string_bytes}
 use Rattle.std.proofs.lemmas.Bool.{false≢true}
-use Rattle.mx_room.specs.Hosted.{IsListing, ready_in}
+use Rattle.mx_room.specs.Hosted.{IsListing, ready_in, states_in}
 use Rattle.mx_room.specs.Rooms.{PlannedRoom, RoomsView, with_room}
 use Rattle.mx_room.proofs.HostedLemmas.{hosted-applied, hosted-found, ready-found, ready-there, states-applied}
+use Rattle.mx_room.proofs.RoomsLemmas.{rooms_of-planned}
 use Rattle.mx_room.proofs.rooms.Rooms.apply.Goals as goal
+use Rattle.mx_room.proofs.rooms.Rooms.apply.Goals.{After-drop-id-inside}
 
 pub apply-requires-clause-capacity : goal.apply-requires-clause-capacity
 apply-requires-clause-capacity c =
@@ -45,8 +45,10 @@ invariant_of-self c =
     (sym c.in-Some.ensures.value)).listing)
     c.apply.ensures.known
 
-pub returns-clause-states : goal.returns-clause-states
-returns-clause-states c =
+changed : (c : After-drop-id-inside)
+    → states_in (c.get_mut.follows.lender c.apply.new.self).entries
+    ≡ with_room c.args.plan.id c.args.plan.sets c.args.self.now.states
+changed c =
     let now = c.apply.new.self in
     let written = c.get_mut.follows.holds now in
     states-applied c.self.inside.rooms.entries (c.get_mut.follows.lender now).entries c.plan.inside.id now
@@ -54,3 +56,10 @@ returns-clause-states c =
     c.in-Some.hosted.now c.plan.inside.room c.self.invariant written.4 (sym c.in-Some.ensures.value)
     c.apply.ensures.state c.apply.ensures.known
     ∙ (λ i. with_room (c.plan.view_is i).id (c.plan.view_is i).sets (c.self.view_is i).states)
+
+pub returns-clause-states : goal.returns-clause-states
+returns-clause-states c = changed c
+
+pub returns-clause-step : goal.returns-clause-step
+returns-clause-step c = λ events event before planned.
+    rooms_of-planned c.args.self.now.states _ c.args.plan events event (changed c) before planned
