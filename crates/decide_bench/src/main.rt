@@ -1,38 +1,38 @@
 //! Decisions that `bench/` measures. Each line of the input is a number of rounds; in a round each
-//! message of the table is judged for each of twenty users with the predefined rules. What is printed
-//! is which kinds of rules decided in the last round.
+//! message of the table is judged for each of twenty users with the predefined rules, in a room in
+//! which all of them are. What is printed is what came of the last round.
 #![tactic(auto)]
 
 mod messages;
 
 use anyhow::{Context, Result};
 use messages::MESSAGES;
-use mx_cond::{Facts, PowerTable};
 use mx_defaults::predefined;
 use mx_event::Event;
 use mx_glob::Scratch;
 use mx_json::{Json, OutOfMemory, UserId};
-use mx_rule::{Kind, RulePlace, Ruleset};
+use mx_judge::judge;
+use mx_room::{Room, RoomView};
+use mx_rule::{Ruleset, Verdict};
 use std::alloc::Global;
 
 const SERVER: &str = "example.org";
 
 const USERS: u32 = 20;
 
-/// A user with the predefined rules, and the name that the user has in the room.
+/// A user with the predefined rules.
 #[derive(Drop)]
 struct Owner {
+    user: UserId,
     rules: Ruleset,
-    name: String,
 }
 
-/// How many decisions were made by rules of which kind.
+/// How many verdicts notify, how many are highlighted, how many do neither, and how often there was none.
 #[derive(Clone, Copy)]
 struct Tally {
-    override_: u32,
-    content: u32,
-    underride: u32,
-    other: u32,
+    notify: u32,
+    highlight: u32,
+    silent: u32,
     none: u32,
 }
 
@@ -40,8 +40,8 @@ fn main(rt: HostRuntime) -> Result<()> {
     for line in rt.lines(rt.alloc()) {
         let tally = tally_of(rt.alloc(), line?.as_str())?;
         println!(rt;
-            "override {}, content {}, underride {}, other {}, none {}",
-            tally.override_, tally.content, tally.underride, tally.other, tally.none
+            "notify {}, highlight {}, silent {}, none {}",
+            tally.notify, tally.highlight, tally.silent, tally.none
         )?;
     }
     Ok(())
@@ -63,20 +63,15 @@ fn owners(alloc: Global) -> Result<Vec<Owner>> {
 }
 
 fn owner_of(alloc: Global, number: u32) -> Result<Owner> {
-    let rules = rules_of(alloc, number)?;
-    let name = format!(in alloc; "User {number}")?;
-    Ok(Owner { rules, name })
-}
-
-fn rules_of(alloc: Global, number: u32) -> Result<Ruleset> {
     let id = format!(in alloc; "@u{number}:{SERVER}")?;
-    rules_for(alloc, id.as_str())
+    owner_with(alloc, id.as_str())
 }
 
-fn rules_for(alloc: Global, id: &str) -> Result<Ruleset> {
+fn owner_with(alloc: Global, id: &str) -> Result<Owner> {
     let user = UserId::read(alloc, id)?;
     user.localpart_on(SERVER).context("a local user")?;
-    Ok(predefined(alloc, &user, SERVER)?)
+    let rules = predefined(alloc, &user, SERVER)?;
+    Ok(Owner { user, rules })
 }
 
 fn events(alloc: Global) -> Result<Vec<Event>> {
@@ -99,14 +94,47 @@ fn read_event(alloc: Global, text: &str) -> Result<Event> {
     Ok(Event::from_json(alloc, json)?)
 }
 
-fn judge_for(alloc: Global, rounds: u32, owners: &[Owner]) -> Result<Tally> {
-    let events = events(alloc)?;
-    judge(alloc, rounds, owners, &events)
+/// The sender of the messages makes the room, and so may call all who are in it.
+const CREATED: &str =
+    r#"{"content":{},"event_id":"$0","room_id":"!r:example.org","sender":"@a:example.org","state_key":"","type":"m.room.create"}"#;
+
+/// The room of all users, each with a name.
+fn room(alloc: Global) -> Result<Room> {
+    let mut room = Room::new(alloc)?;
+    take(alloc, &mut room, CREATED)?;
+    for number in 0..USERS {
+        join(alloc, &mut room, number)?;
+    }
+    Ok(room)
 }
 
-fn judge(alloc: Global, rounds: u32, owners: &[Owner], events: &[Event]) -> Result<Tally> {
-    let powers = PowerTable::of(alloc, None)?;
-    judge_in(alloc, rounds, owners, events, &powers)
+fn join(alloc: Global, room: &mut Room, number: u32) -> Result<()> {
+    let text = format!(in alloc;
+        r#"{{"content":{{"displayname":"User {number}","membership":"join"}},"event_id":"$1","room_id":"!r:example.org","sender":"@u{number}:{SERVER}","state_key":"@u{number}:{SERVER}","type":"m.room.member"}}"#
+    )?;
+    take(alloc, room, text.as_str())
+}
+
+fn take(alloc: Global, room: &mut Room, text: &str) -> Result<()> {
+    let event = read_event(alloc, text)?;
+    set(alloc, room, &event)?;
+    Ok(())
+}
+
+fn set(alloc: Global, room: &mut Room, event: &Event) -> Result<(), OutOfMemory> {
+    let plan = room.prepare(alloc, event)?;
+    room.apply(plan);
+    Ok(())
+}
+
+fn judge_for(alloc: Global, rounds: u32, owners: &[Owner]) -> Result<Tally> {
+    let events = events(alloc)?;
+    judge_events(alloc, rounds, owners, &events)
+}
+
+fn judge_events(alloc: Global, rounds: u32, owners: &[Owner], events: &[Event]) -> Result<Tally> {
+    let room = room(alloc)?;
+    judge_in(alloc, rounds, owners, events, &room.view(None))
 }
 
 fn judge_in(
@@ -114,12 +142,12 @@ fn judge_in(
     rounds: u32,
     owners: &[Owner],
     events: &[Event],
-    powers: &PowerTable,
+    view: &RoomView,
 ) -> Result<Tally> {
     let mut scratch = Scratch::new(alloc)?;
     let mut tally = Tally::new();
     for _ in 0..rounds {
-        tally = round(alloc, owners, events, powers, &mut scratch)?;
+        tally = round(alloc, owners, events, view, &mut scratch)?;
     }
     Ok(tally)
 }
@@ -129,12 +157,12 @@ fn round(
     alloc: Global,
     owners: &[Owner],
     events: &[Event],
-    powers: &PowerTable,
+    view: &RoomView,
     scratch: &mut Scratch,
 ) -> Result<Tally, OutOfMemory> {
     let mut tally = Tally::new();
     for event in events {
-        tally = judge_all(alloc, owners, event, powers, scratch, tally)?;
+        tally = judge_all(alloc, owners, event, view, scratch, tally)?;
     }
     Ok(tally)
 }
@@ -144,56 +172,42 @@ fn judge_all(
     alloc: Global,
     owners: &[Owner],
     event: &Event,
-    powers: &PowerTable,
+    view: &RoomView,
     scratch: &mut Scratch,
     tally: Tally,
 ) -> Result<Tally, OutOfMemory> {
     let mut tally = tally;
     for owner in owners {
-        let name = owner.name.as_str();
-        let place = decide(alloc, &owner.rules, event, name, powers, scratch)?;
-        tally.count(place);
+        let rules = &owner.rules;
+        let verdict = judge(alloc, event, &owner.user, SERVER, rules, view, scratch)?;
+        tally.count(&verdict);
     }
     Ok(tally)
-}
-
-fn decide<'a>(
-    alloc: Global,
-    rules: &Ruleset,
-    event: &'a Event,
-    owner_name: &'a str,
-    powers: &'a PowerTable,
-    scratch: &mut Scratch,
-) -> Result<Option<RulePlace>, OutOfMemory> {
-    let facts = Facts {
-        event,
-        owner_name: Some(owner_name),
-        joined: 20,
-        sender_power: 50,
-        powers,
-    };
-    rules.decide(alloc, &facts, scratch)
 }
 
 impl Tally {
     fn new() -> Tally {
         Tally {
-            override_: 0,
-            content: 0,
-            underride: 0,
-            other: 0,
+            notify: 0,
+            highlight: 0,
+            silent: 0,
             none: 0,
         }
     }
 
-    fn count(&mut self, place: Option<RulePlace>) {
-        let counter = match place.map(|place| place.kind) {
-            Some(Kind::Override) => &mut self.override_,
-            Some(Kind::Content) => &mut self.content,
-            Some(Kind::Underride) => &mut self.underride,
-            Some(_) => &mut self.other,
-            None => &mut self.none,
+    fn count(&mut self, verdict: &Option<Verdict>) {
+        let Some(verdict) = verdict else {
+            self.none = self.none.saturating_add(1);
+            return;
+        };
+        let counter = if verdict.notify {
+            &mut self.notify
+        } else {
+            &mut self.silent
         };
         *counter = counter.saturating_add(1);
+        if verdict.highlight {
+            self.highlight = self.highlight.saturating_add(1);
+        }
     }
 }

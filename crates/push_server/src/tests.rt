@@ -1,5 +1,6 @@
 mod fixtures;
 mod refusals;
+mod rooms;
 mod serving;
 mod watching;
 

@@ -71,6 +71,11 @@ impl Script {
         self.say(rt, padded.as_bytes(), reply);
     }
 
+    /// The number of the line that is said next, from 1.
+    pub(super) fn next_line(&self) -> usize {
+        self.ends.len() + 1
+    }
+
     /// How many bytes the replies have to the lines that end within so many bytes of the input.
     pub(super) fn replied(&self, taken: usize) -> usize {
         let mut written = 0;

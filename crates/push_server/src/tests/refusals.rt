@@ -97,14 +97,18 @@ static HIDDEN: [&str; 6] = [
     KNOWN,
 ];
 
-/// An event that is known afterwards, and notifies.
+const B_JOINS: &str =
+    r#"{"cmd":"event","event":{"content":{"membership":"join"},"event_id":"$b","room_id":"!r:example.org","sender":"@b:example.org","state_key":"@b:example.org","type":"m.room.member"}}"#;
+
+/// An event that is known afterwards, and notifies who joined.
 const FIRST: &str =
     r#"{"cmd":"event","event":{"content":{},"event_id":"$known","room_id":"!r:example.org","sender":"@a:example.org","type":"m.room.message"}}"#;
 
-/// Each refused line, between an event and what shows that nothing else changed anything.
+/// Each refused line, between two events and what shows that nothing else changed anything.
 fn refused_lines(rt: &impl Abort, alloc: Global) -> Script {
     let mut script = Script::new(alloc);
-    script.say(rt, FIRST.as_bytes(), r#"= {"ok":1}"#);
+    script.say(rt, B_JOINS.as_bytes(), r#"= {"ok":1}"#);
+    script.say(rt, FIRST.as_bytes(), r#"= {"ok":2}"#);
     for line in HIDDEN {
         script.say_padded(rt, alloc, line, 131_073, r#"= {"error":"LineTooLong"}"#);
     }
@@ -120,7 +124,7 @@ fn refused_lines(rt: &impl Abort, alloc: Global) -> Script {
     script.say(
         rt,
         KNOWN.as_bytes(),
-        r#"= {"error":"KnownEvent","position":1}"#,
+        r#"= {"error":"KnownEvent","position":2}"#,
     );
     script.say(
         rt,
@@ -205,23 +209,24 @@ fn long(rt: &impl Abort, alloc: Global, length: usize) -> String {
 
 /// Lines at the bounds of what is accepted, the refused ones after them, and what was accepted.
 #[rattlefmt::skip]
-static AT_BOUNDS: [(Line, &str); 14] = [
-    (Line::Nested(97), r#"= {"ok":1}"#),
-    (Line::Is(r#"{"cmd":"event","event":{"content":{"n":9007199254740991},"event_id":"$n1","room_id":"!r:example.org","sender":"@a:example.org","type":"m.room.message"}}"#), r#"= {"ok":2}"#),
-    (Line::Is(r#"{"cmd":"event","event":{"content":{"n":-9007199254740991},"event_id":"$n2","room_id":"!r:example.org","sender":"@a:example.org","type":"m.room.message"}}"#), r#"= {"ok":3}"#),
-    (Line::Id(254), r#"= {"ok":4}"#),
-    (Line::Kind(255), r#"= {"ok":5}"#),
+static AT_BOUNDS: [(Line, &str); 15] = [
+    (Line::Is(B_JOINS), r#"= {"ok":1}"#),
+    (Line::Nested(97), r#"= {"ok":2}"#),
+    (Line::Is(r#"{"cmd":"event","event":{"content":{"n":9007199254740991},"event_id":"$n1","room_id":"!r:example.org","sender":"@a:example.org","type":"m.room.message"}}"#), r#"= {"ok":3}"#),
+    (Line::Is(r#"{"cmd":"event","event":{"content":{"n":-9007199254740991},"event_id":"$n2","room_id":"!r:example.org","sender":"@a:example.org","type":"m.room.message"}}"#), r#"= {"ok":4}"#),
+    (Line::Id(254), r#"= {"ok":5}"#),
+    (Line::Kind(255), r#"= {"ok":6}"#),
     // As a server hands an event out.
-    (Line::Is(r#"{"cmd":"event","event":{"content":{"body":"hi","m.mentions":{},"msgtype":"m.text"},"event_id":"$143273582443PhrSn8Yp0wVcDkWuBtGXbA3mJqLzTHe","origin_server_ts":1432735824653,"room_id":"!r:example.org","sender":"@a:example.org","type":"m.room.message","unsigned":{"age":1234}}}"#), r#"= {"ok":6}"#),
+    (Line::Is(r#"{"cmd":"event","event":{"content":{"body":"hi","m.mentions":{},"msgtype":"m.text"},"event_id":"$143273582443PhrSn8Yp0wVcDkWuBtGXbA3mJqLzTHe","origin_server_ts":1432735824653,"room_id":"!r:example.org","sender":"@a:example.org","type":"m.room.message","unsigned":{"age":1234}}}"#), r#"= {"ok":7}"#),
     // Two keys of one name: the last counts.
-    (Line::Is(r#"{"cmd":"event","event":{"content":{},"event_id":"$twice","event_id":"$last","room_id":"!r:example.org","sender":"@a:example.org","type":"m.room.message"}}"#), r#"= {"ok":7}"#),
+    (Line::Is(r#"{"cmd":"event","event":{"content":{},"event_id":"$twice","event_id":"$last","room_id":"!r:example.org","sender":"@a:example.org","type":"m.room.message"}}"#), r#"= {"ok":8}"#),
     (Line::Nested(98), r#"= {"error":"BadLine"}"#),
     (Line::Id(255), r#"= {"error":"BadField","field":"event.event_id"}"#),
     (Line::Id(0), r#"= {"error":"BadField","field":"event.event_id"}"#),
     (Line::Kind(256), r#"= {"error":"BadField","field":"event.type"}"#),
     (Line::Is(r#"{"cmd":"counts","room_id":"!r:example.org","user":"@b:example.org"}"#), r#"= {"highlight_count":0,"notification_count":6,"threads":{}}"#),
     (Line::Long(131_073), r#"= {"error":"LineTooLong"}"#),
-    (Line::Long(131_072), r#"= {"ok":8}"#),
+    (Line::Long(131_072), r#"= {"ok":9}"#),
 ];
 
 fn lines_at_bounds(rt: &impl Abort, alloc: Global) -> Script {

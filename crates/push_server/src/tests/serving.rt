@@ -17,11 +17,11 @@ const TOO_LONG: &str = r#"= {"error":"LineTooLong"}"#;
 #[rattlefmt::skip]
 static FIRST_MESSAGES: [(&str, &str); 8] = [
     (
-        r#"{"cmd":"event","event":{"content":{"membership":"join"},"event_id":"$1","room_id":"!r:example.org","sender":"@a:example.org","type":"m.room.member"}}"#,
+        r#"{"cmd":"event","event":{"content":{"membership":"join"},"event_id":"$1","room_id":"!r:example.org","sender":"@a:example.org","state_key":"@a:example.org","type":"m.room.member"}}"#,
         r#"= {"ok":1}"#,
     ),
     (
-        r#"{"cmd":"event","event":{"content":{"membership":"join"},"event_id":"$2","room_id":"!r:example.org","sender":"@b:example.org","type":"m.room.member"}}"#,
+        r#"{"cmd":"event","event":{"content":{"membership":"join"},"event_id":"$2","room_id":"!r:example.org","sender":"@b:example.org","state_key":"@b:example.org","type":"m.room.member"}}"#,
         r#"= {"ok":2}"#,
     ),
     (
@@ -126,7 +126,7 @@ fn answers_long_lines(rt: &impl Abort, alloc: Global, size: usize) -> bool {
 
 #[test]
 fn a_read_fault_at_each_call(rt: HostRuntime) {
-    // Nine pieces of the input, its end, and a call that isn't made.
+    // Ten pieces of the input, its end, and a call that isn't made.
     for (call, taken, status) in [
         (1, 0, Status::ReadFault),
         (2, 100, Status::ReadFault),
@@ -138,7 +138,8 @@ fn a_read_fault_at_each_call(rt: HostRuntime) {
         (8, 700, Status::ReadFault),
         (9, 800, Status::ReadFault),
         (10, 900, Status::ReadFault),
-        (11, 900, Status::Done),
+        (11, 1000, Status::ReadFault),
+        (12, 1000, Status::Done),
     ] {
         assert!(rt;
             ends_at_fault(&rt, rt.alloc(), call, taken, status),
@@ -168,14 +169,14 @@ fn serve_to_fault(
 
 #[test]
 fn the_input_limit_set_low(rt: HostRuntime) {
-    // The input has 896 bytes.
+    // The input has 954 bytes.
     for (limit, status) in [
         (0, Status::InputLimit),
         (1, Status::InputLimit),
         (350, Status::InputLimit),
         (700, Status::InputLimit),
-        (896, Status::InputLimit),
-        (897, Status::Done),
+        (954, Status::InputLimit),
+        (955, Status::Done),
         (usize::MAX, Status::Done),
     ] {
         assert!(rt;
