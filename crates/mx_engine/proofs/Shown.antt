@@ -53,7 +53,7 @@ pub refusal-found : (server : List ℕ) (h : History) (shown : Snapshot) (places
     → refusal_of server h (Event event) ≡ refusal_by found full
 refusal-found server h shown places inputs event id found full is same counted named answered told =
     let place : place_in shown.places (event_id_of event) ≡ found =
-        ap (λ (p : Places). place_in p (event_id_of event)) (sym same) ∙ ap (place_in places) (sym named) ∙ sym answered in
+    ap (λ (p : Places). place_in p (event_id_of event)) (sym same) ∙ ap (place_in places) (sym named) ∙ sym answered in
     let is_full : nat_le most_inputs shown.inputs ≡ full = ap (nat_le most_inputs) (sym counted) ∙ told in
     refusal-shown server h shown event is
     ∙ ap (λ found. refusal_by found (nat_le most_inputs shown.inputs)) place

@@ -8,6 +8,7 @@ use Rattle.mx_event.specs.Event.{event_id_of, room_id_of}
 use Rattle.mx_records.specs.declared.input.Input.{Input}
 use Rattle.mx_records.specs.declared.input.Input.TheVariants.{Event}
 
+-- For which input the memory of an engine suffices.
 pub record Capacity : Type 0 where
   pub rooms : set.FinSet (slice_cmp nat_cmp)  -- the rooms for whose next event it suffices
   pub places : set.FinSet (slice_cmp nat_cmp)  -- the event ids for whose places it suffices

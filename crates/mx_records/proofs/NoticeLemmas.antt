@@ -27,7 +27,7 @@ use Rattle.mx_records.specs.Counting.{counts_of, is_in, is_unread, unread}
 use Rattle.mx_records.specs.History.{History, Happening, events}
 use Rattle.mx_records.specs.Judging.{highlights, notice_in, notice_of, notices_in, notifies, rules_of, verdict_for, verdict_in}
 use Rattle.mx_records.specs.Rooms.{events_of, room_after}
-use Rattle.mx_records.specs.Snapshot.{Notified, Snapshot, counts_in, is_highlighted_in, is_notified_in, notified_by, snapshot_of}
+use Rattle.mx_records.specs.Snapshot.{Notified, Snapshot, counts_among, is_highlighted_in, is_notified_in, notified_by, snapshot_of}
 
 -- ---- who is notified is a member
 
@@ -155,10 +155,10 @@ module _ (server user room : List ℕ) where
       ∙ is_seen (is_in room x.event) (verdict_for server user x)
 
   -- a snapshot tells what is unread
-  pub counts_in-shown : (h : History) (shown : Snapshot) → shown ≡ snapshot_of server h
-      → counts_in shown.notified user room ≡ counts_of server h user room
+  pub counts_among-shown : (h : History) (shown : Snapshot) → shown ≡ snapshot_of server h
+      → counts_among shown.notified user room ≡ counts_of server h user room
   unfolding counts_of snapshot_of
-  counts_in-shown h shown is =
+  counts_among-shown h shown is =
       let notify : count_by (is_notified_in room user) (map (notified_by server) (events h))
       ≡ length (unread server h user room) =
       count-alike (notified_by server) (is_notified_in room user) (is_unread server user room) is_notified-unread
@@ -169,4 +169,4 @@ module _ (server user room : List ℕ) where
       count-alike (notified_by server) (is_highlighted_in room user)
       (λ x. is_unread server user room x && highlights server user x) is_highlighted-unread (events h)
       ∙ sym (count_by-filter (is_unread server user room) (highlights server user) (events h)) in
-      ap (λ (s : Snapshot). counts_in s.notified user room) is ∙ (λ i. record { notify = notify i; highlight = highlight i })
+      ap (λ (s : Snapshot). counts_among s.notified user room) is ∙ (λ i. record { notify = notify i; highlight = highlight i })

@@ -55,8 +55,8 @@ is_highlighted_in room user notified =
     bytes_eq notified.room room && unwrap_or (get notified.users user) false
 
 -- how many events of the room notify the user, and how many of these are highlighted
-abbrev pub counts_in : List Notified → List ℕ → List ℕ → Counts
-counts_in notified user room = record {
+abbrev pub counts_among : List Notified → List ℕ → List ℕ → Counts
+counts_among notified user room = record {
   notify = count_by (is_notified_in room user) notified;
   highlight = count_by (is_highlighted_in room user) notified;
 }

@@ -13,7 +13,7 @@ use Rattle.mx_json.specs.Ids.{is_user_id, localpart_of}
 use Rattle.mx_room.specs.Change.{Sets, with_member, with_sets}
 use Rattle.mx_room.specs.Hosted.{IsListing, user_of}
 use Rattle.mx_room.specs.Members.{has_joined, joins}
-use Rattle.mx_room.specs.Rooms.{is_local, is_local_member}
+use Rattle.mx_room.specs.Rooms.{is_local_id, is_local_member}
 use Rattle.mx_room.specs.State.{RoomState, room_of}
 use Rattle.mx_room.specs.Texts.{Texts, table}
 use Rattle.mx_room.specs.declared.member.Member.{Member}
@@ -131,27 +131,27 @@ has_joined-insert members named q member b is =
 
 step_by : (server named q : List ℕ) (member : Member) (members : Texts Member) (b : Bool) → bytes_eq q named ≡ b
     → listed_after server (cond (is_user_id named) (Some named) None) (joins member) q
-    (is_local server q && has_joined members q)
-    ≡ (is_local server q && has_joined (insert members named member) q)
+    (is_local_id server q && has_joined members q)
+    ≡ (is_local_id server q && has_joined (insert members named member) q)
 step_by server named q member members true is =
     subst
     (λ (at : List ℕ). listed_after server (cond (is_user_id named) (Some named) None) (joins member) at
-    (is_local server at && has_joined members at)
-    ≡ (is_local server at && has_joined (insert members named member) at))
+    (is_local_id server at && has_joined members at)
+    ≡ (is_local_id server at && has_joined (insert members named member) at))
     (sym (bytes_eq-same q named is))
     (step_here server named (joins member) (has_joined members named) (is_user_id named)
     (is_some (localpart_of server named)) refl
-    ∙ ap (λ b. is_local server named && b)
+    ∙ ap (λ b. is_local_id server named && b)
     (sym (has_joined-insert members named named member true (bytes_eq-itself named))))
 step_by server named q member members false apart =
-    step_elsewhere server named q (joins member) (is_local server q && has_joined members q) (is_user_id named)
+    step_elsewhere server named q (joins member) (is_local_id server q && has_joined members q) (is_user_id named)
     (is_some (localpart_of server named)) apart refl
-    ∙ ap (λ b. is_local server q && b) (sym (has_joined-insert members named q member false apart))
+    ∙ ap (λ b. is_local_id server q && b) (sym (has_joined-insert members named q member false apart))
 
 step_of : (server q : List ℕ) (set : Option (List ℕ × Member)) (members : Texts Member)
     → listed_after server (user_of set) (option_map_or (λ (set : List ℕ × Member). joins set.1) set false) q
-    (is_local server q && has_joined members q)
-    ≡ (is_local server q && has_joined (with_member set members) q)
+    (is_local_id server q && has_joined members q)
+    ≡ (is_local_id server q && has_joined (with_member set members) q)
 step_of server q None members = refl
 step_of server q (Some set) members = step_by server set.0 q set.1 members (bytes_eq q set.0) refl
 
@@ -174,10 +174,10 @@ no_members = refl
 
 pub nobody_joined : (server q : List ℕ) → is_local_member server (room_of []) q ≡ false
 nobody_joined server q =
-    ap (λ (members : Texts Member). is_local server q && has_joined members q) no_members
-    ∙ ap (λ (o : Option Member). is_local server q && option_map_or joins o false)
+    ap (λ (members : Texts Member). is_local_id server q && has_joined members q) no_members
+    ∙ ap (λ (o : Option Member). is_local_id server q && option_map_or joins o false)
     (get-empty (slice_cmp nat_cmp) q)
-    ∙ and_false (is_local server q)
+    ∙ and_false (is_local_id server q)
 
 pub listing-none : (server : List ℕ) → IsListing server (room_of []) []
 listing-none server q = sym (nobody_joined server q)

@@ -9,7 +9,7 @@ use Rattle.mx_json.specs.declared.value.Json.{Json}
 use Rattle.mx_json.specs.Ids.{is_user_id, localpart_of}
 use Rattle.mx_event.specs.Event.{room_id_of}
 use Rattle.mx_room.specs.Change.{sets_of, with_sets}
-use Rattle.mx_room.specs.Rooms.{PlannedRoom, events_in, is_local, room_at, rooms_of, some_room, with_room}
+use Rattle.mx_room.specs.Rooms.{PlannedRoom, events_in, is_local_id, room_at, rooms_of, some_room, with_room}
 use Rattle.mx_room.specs.State.{RoomState, room_of}
 use Rattle.mx_room.specs.Texts.{Texts, table}
 use Rattle.mx_room.proofs.StateLemmas.{room_of-push}
@@ -106,6 +106,6 @@ rooms_of-none = refl
 -- ---- local users
 
 -- of a user id it's asked alone whether it has a localpart on the server
-pub is_local-of_id : (server user : List ℕ) → is_user_id user ≡ true
-    → is_local server user ≡ is_some (localpart_of server user)
-is_local-of_id server user is_id = rw is_id
+pub is_local_id-of_id : (server user : List ℕ) → is_user_id user ≡ true
+    → is_local_id server user ≡ is_some (localpart_of server user)
+is_local_id-of_id server user is_id = rw is_id

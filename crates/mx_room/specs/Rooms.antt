@@ -40,12 +40,12 @@ with_room id sets rooms = insert rooms id (with_sets sets (room_at rooms id))
 -- ---- local users
 
 -- the text is the id of a user of this server
-abbrev pub is_local : List ℕ → List ℕ → Bool
-is_local server user = is_user_id user && is_some (localpart_of server user)
+abbrev pub is_local_id : List ℕ → List ℕ → Bool
+is_local_id server user = is_user_id user && is_some (localpart_of server user)
 
 -- the user is one of this server, and joined
 abbrev pub is_local_member : List ℕ → RoomState → List ℕ → Bool
-is_local_member server room user = is_local server user && has_joined room.members user
+is_local_member server room user = is_local_id server user && has_joined room.members user
 
 -- ---- what is seen of `Rooms` and `RoomsPlan`
 

@@ -20,10 +20,9 @@ invariant_of-self c =
     let position = ap (λ (p : Planned). p.position) c.plan.view_is in
     let inputs = ap (λ (v : View). v.shown.inputs) c.self.view_is in
     let in_range : c.plan.inside.place.position ≤ most_inputs
-        = subst (λ n. n ≤ most_inputs) (sym position) c.requires.made.in_range in
+    = subst (λ n. n ≤ most_inputs) (sym position) c.requires.made.in_range in
     let longer = ap length c.push_reserved.ensures.items
-        ∙ length-append c.self.inside.notified.items (c.plan.inside.notified ∷ []) in
-    (
+    ∙ length-append c.self.inside.notified.items (c.plan.inside.notified ∷ []) in (
       c.self.invariant.0 ∙ sym c.apply.ensures.server,
       in_range,
       omega (arith, longer, c.self.invariant.2, position, inputs, c.requires.made.next),
@@ -52,26 +51,26 @@ returns-clause-step c h is =
     } in
     let same : shown ≡ c.args.self.now.shown = ap (λ (v : View). v.shown) c.self.view_is in
     let suits : Suits c.args.self.now.server shown event plan =
-        subst (λ (s : Snapshot). Suits c.args.self.now.server s event plan) (sym same)
-        (subst (λ (p : Planned). SuitsInput c.args.self.now.server c.args.self.now.shown p.input p) (sym c.plan.view_is)
-        c.requires.made.suits) in
+    subst (λ (s : Snapshot). Suits c.args.self.now.server s event plan) (sym same)
+    (subst (λ (p : Planned). SuitsInput c.args.self.now.server c.args.self.now.shown p.input p) (sym c.plan.view_is)
+    c.requires.made.suits) in
     let next : place.position ≡ shown.inputs + 1 =
-        ap (λ (p : Planned). p.position) c.plan.view_is ∙ c.requires.made.next
-        ∙ ap (λ (s : Snapshot). s.inputs + 1) (sym same) in
+    ap (λ (p : Planned). p.position) c.plan.view_is ∙ c.requires.made.next
+    ∙ ap (λ (s : Snapshot). s.inputs + 1) (sym same) in
     let places : c.note.new.self.places ≡ insert shown.places (event_id_of event)
-        (record { position = place.position; room = room_id_of event; thread = place.thread }) =
-        c.note.ensures.places
-        ∙ ap (λ id. insert shown.places id place) c.event_id.ensures
-        ∙ ap (λ room. insert shown.places (event_id_of event)
-        (record { position = place.position; room = room; thread = place.thread })) c.plan.invariant.1 in
+    (record { position = place.position; room = room_id_of event; thread = place.thread }) =
+    c.note.ensures.places
+    ∙ ap (λ id. insert shown.places id place) c.event_id.ensures
+    ∙ ap (λ room. insert shown.places (event_id_of event)
+    (record { position = place.position; room = room; thread = place.thread })) c.plan.invariant.1 in
     let rooms : c.apply.new.self.states ≡ with_room (room_id_of event) (sets_of event) shown.rooms =
-        c.apply.ensures.states
-        ∙ ap (λ (p : PlannedRoom). with_room p.id p.sets shown.rooms) c.plan.invariant.0 in
+    c.apply.ensures.states
+    ∙ ap (λ (p : PlannedRoom). with_room p.id p.sets shown.rooms) c.plan.invariant.0 in
     let notified : c.push_reserved.new.self.items ≡ shown.notified
-        ++ record { position = place.position; room = room_id_of event; users = told.users } ∷ [] =
-        c.push_reserved.ensures.items
-        ∙ (λ i. shown.notified
-        ++ record { position = c.plan.invariant.3 i; room = c.plan.invariant.2 i; users = told.users } ∷ []) in
+    ++ record { position = place.position; room = room_id_of event; users = told.users } ∷ [] =
+    c.push_reserved.ensures.items
+    ∙ (λ i. shown.notified
+    ++ record { position = c.plan.invariant.3 i; room = c.plan.invariant.2 i; users = told.users } ∷ []) in
     (λ i. record { inputs = place.position; places = places i; rooms = rooms i; notified = notified i })
     ∙ step-shown c.args.self.now.server c.apply.new.self.server h shown event plan (same ∙ is)
     (c.apply.ensures.server ∙ ap (λ (v : View). v.server) c.self.view_is) next suits

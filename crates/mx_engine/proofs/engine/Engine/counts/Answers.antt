@@ -1,7 +1,7 @@
 use Rattle.std.proofs.Common.{◌≡◌, ◌∙◌, ap}
 use Rattle.std.specs.Prelude.{count_by}
 use Rattle.mx_records.specs.Snapshot.{Snapshot, is_highlighted_in, is_notified_in}
-use Rattle.mx_records.proofs.NoticeLemmas.{counts_in-shown}
+use Rattle.mx_records.proofs.NoticeLemmas.{counts_among-shown}
 use Rattle.mx_engine.specs.View.{View}
 use Rattle.mx_engine.proofs.engine.Engine.counts.Goals as goal
 
@@ -19,4 +19,4 @@ returns-clause-exact c h is =
     let notify = c.count_notified.ensures ∙ ap (count_by (is_notified_in room user)) c.deref.ensures.value in
     let highlight = c.count_highlighted.ensures ∙ ap (count_by (is_highlighted_in room user)) c.deref-2.ensures.value in
     (λ i. record { notify = notify i; highlight = highlight i })
-    ∙ counts_in-shown c.args.self.now.server user room h shown (same ∙ is)
+    ∙ counts_among-shown c.args.self.now.server user room h shown (same ∙ is)

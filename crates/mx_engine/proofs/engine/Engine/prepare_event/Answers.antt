@@ -30,7 +30,7 @@ returns-clause-made c =
     let now = c.reserve.new.self in
     let meaning : now.shown ≡ c.args.self.now.shown = c.reserve.ensures.meaning in
     let inputs : c.self.inside.inputs ≡ now.shown.inputs =
-        ap (λ (v : View). v.shown.inputs) c.self.view_is ∙ ap (λ (s : Snapshot). s.inputs) (sym meaning) in
+    ap (λ (v : View). v.shown.inputs) c.self.view_is ∙ ap (λ (s : Snapshot). s.inputs) (sym meaning) in
     subst (λ (v : View). IsMadeFor v.server v.shown plan) (sym c.in_ok-plan.ensures.same)
     (record {
       next = c.in_ok-plan.ensures.next;
