@@ -1,1 +1,4 @@
 pub mod Shown
+pub mod PlacesLemmas
+pub mod NoticingLemmas
+pub mod RulesLemmas

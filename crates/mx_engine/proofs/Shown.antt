@@ -45,6 +45,20 @@ unfolding refusal_of snapshot_of
 refusal-shown server h shown event is =
     sym (ap (λ (s : Snapshot). refusal_by (place_in s.places (event_id_of event)) (nat_le most_inputs s.inputs)) is)
 
+-- what a look for the event's id in the places answers, and whether the inputs are as many as may be, tell its refusal
+pub refusal-found : (server : List ℕ) (h : History) (shown : Snapshot) (places : Places) (inputs : ℕ) (event : Json)
+    (id : List ℕ) (found : Option Place) (full : Bool)
+    → shown ≡ snapshot_of server h → places ≡ shown.places → inputs ≡ shown.inputs → id ≡ event_id_of event
+    → found ≡ place_in places id → nat_le most_inputs inputs ≡ full
+    → refusal_of server h (Event event) ≡ refusal_by found full
+refusal-found server h shown places inputs event id found full is same counted named answered told =
+    let place : place_in shown.places (event_id_of event) ≡ found =
+        ap (λ (p : Places). place_in p (event_id_of event)) (sym same) ∙ ap (place_in places) (sym named) ∙ sym answered in
+    let is_full : nat_le most_inputs shown.inputs ≡ full = ap (nat_le most_inputs) (sym counted) ∙ told in
+    refusal-shown server h shown event is
+    ∙ ap (λ found. refusal_by found (nat_le most_inputs shown.inputs)) place
+    ∙ ap (refusal_by found) is_full
+
 -- ---- what an event leads to
 
 pub inputs-shown : (server : List ℕ) (h : History) (shown : Snapshot) → shown ≡ snapshot_of server h

@@ -6,7 +6,7 @@ use Rattle.mx_json.specs.declared.value.Json.{Json}
 use Rattle.mx_json.specs.Ids.{is_user_id}
 use Rattle.mx_room.specs.Change.{sets_of, with_sets}
 use Rattle.mx_room.specs.Rooms.{is_local_member}
-use Rattle.mx_room.specs.State.{RoomState, named_by}
+use Rattle.mx_room.specs.State.{RoomState}
 
 -- what `f` says of each of these users, where it says anything
 abbrev pub said_of : (List ℕ → Option Bool) → List (List ℕ) → List (List ℕ × Bool)

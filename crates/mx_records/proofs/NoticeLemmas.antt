@@ -51,7 +51,8 @@ last_fails true true false d fails = refl
 last_fails true false c d fails = refl
 last_fails false b c d fails = refl
 
-unjudged : (server membership user : List ℕ) (rules : PushRuleset) (facts : EventFacts)
+-- of an event that isn't judged for a user nothing is said
+pub unjudged : (server membership user : List ℕ) (rules : PushRuleset) (facts : EventFacts)
     → is_judged server user membership facts.event ≡ false → judged server user membership rules facts ≡ None
 unfolding judged
 unjudged server membership user rules facts is = ap (λ b. cond b (Some (verdict_by facts (flat rules))) None) is

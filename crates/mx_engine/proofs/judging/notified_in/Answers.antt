@@ -1,0 +1,24 @@
+use Rattle.std.proofs.Common.{[], ◌∷◌, ◌++◌, Some, None, sym, ap, ◌∙◌}
+use Rattle.mx_records.specs.Judging.{notice_in}
+use Rattle.mx_rule.specs.Predefined.{predefined_rules}
+use Rattle.mx_engine.specs.Noticing.{said_of}
+use Rattle.mx_engine.proofs.NoticingLemmas.{notices-walked, said-walked}
+use Rattle.mx_engine.proofs.judging.notified_in.Goals as goal
+use Rattle.mx_engine.proofs.judging.notified_in.Goals.{in-Some+in_ok-note, in_default}
+
+pub returns : goal.returns
+returns c =
+    let rules = predefined_rules c.args.rules.now in
+    let said = notice_in c.args.rules.now rules c.args.view.now c.args.event.now in
+    let all = notices-walked c.args.rules.now rules c.args.event.now c.args.view.now c.args.members.now in
+    elim c.match-branch-3.branch [
+      | in-Some+in_ok-note w ↦
+          all (Some w.in-Some.named) c.match-branch-3.users.items c.requires (sym w.in-Some.is ∙ c.in_ok-named.ensures)
+          (ap (λ users. users.items) w.users-is
+          ∙ w.in_ok-note.ensures
+          ∙ ap (λ before. before ++ said_of said (w.in-Some.named ∷ [])) c.in_ok-users.ensures
+          ∙ said-walked said c.args.members.now w.in-Some.named)
+      | in_default w ↦
+          all None c.match-branch-3.users.items c.requires (sym w.in_default.is ∙ c.in_ok-named.ensures)
+          (ap (λ users. users.items) w.users-is ∙ c.in_ok-users.ensures)
+    ]
