@@ -1,6 +1,6 @@
 use Rattle.std.proofs.Common.{Ok, Err, ◌∙◌, refl, ap, arith}
 use Rattle.mx_lines.specs.Cutting.{Held}
-use Rattle.push_server.proofs.ServeLemmas.{HasTaken-nothing, HasTaken-more, Running-starts, Running-piece, HasLawfulRun-silent, HasLawfulRun-halted, HasLawfulRun-last, HasLawfulRun-failed, HasLawfulRun-limit}
+use Rattle.push_server.proofs.ServeLemmas.{HasTaken-nothing, HasTaken-more, Running-starts, Running-piece, HasLawfulRun-silent, HasLawfulRun-halted, HasLawfulRun-last, HasLawfulRun-failed, HasLawfulRun-limit, limit_reached}
 use Rattle.push_server.proofs.serve.serve_lines.Goals as goal
 use Rattle.push_server.proofs.serve.serve_lines.Goals.{in-Ok-finish, in-Err-finish}
 
@@ -67,3 +67,8 @@ pub returns-clause-lawful : goal.returns-clause-lawful
 returns-clause-lawful g c left left_told before taken_told =
     HasLawfulRun-limit c.args.limit c.loop-left_of_limit.left_of_limit c.args.server.now left before _ _ _ _ c.loop-left_of_limit-test.false c.loop-left_of_limit.invariant.ready
     (c.loop-left_of_limit.invariant.running left left_told before taken_told)
+
+pub returns-clause-limit : goal.returns-clause-limit
+returns-clause-limit g c left left_told ended =
+    limit_reached c.args.limit c.loop-left_of_limit.left_of_limit left _ _ left_told c.loop-left_of_limit-test.false
+    c.loop-left_of_limit.invariant.taken
