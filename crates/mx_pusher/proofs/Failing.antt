@@ -60,7 +60,7 @@ after_failure kept later run position now first stands order place moment idle p
   last_failed = ap position_of failing ∙ ap Some place;
   first = λ other above.
       let below : IsNotBelow (last_failed_in run) other =
-          rw (sym stands.last_failed) (still_not_below (last_failed kept) position other order above) in
+      rw (sym stands.last_failed) (still_not_below (last_failed kept) position other order above) in
       rw failing (rw place (first_of_more kept.failing position now other first.moment
-        (first_failure run other) (eqb position other) order moment above (stands.first other below) refl));
+      (first_failure run other) (eqb position other) order moment above (stands.first other below) refl));
 }

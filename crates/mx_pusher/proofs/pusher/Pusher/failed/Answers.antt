@@ -12,5 +12,5 @@ returns-clause-run c = λ run stands.
     let flight : c.args.self.now.in_flight ≡ Some position = rw (sym c.self.view_is) inside in
     let order : IsNotBelow (last_failed kept) position = rw inside at c.self.invariant.1 in
     rw flight (after_failure kept _ run position c.args.now c.first.result (rw c.self.view_is stands)
-      order c.first.ensures.position c.first.ensures.moment c.take.ensures.after c.min-self-inside.ensures
-      refl refl)
+    order c.first.ensures.position c.first.ensures.moment c.take.ensures.after c.min-self-inside.ensures
+    refl refl)
