@@ -1,5 +1,5 @@
-use Rattle.std.proofs.Common.{◌≡◌, Some, IfSome, refl, sym, ap, ◌∙◌}
-use Rattle.mx_pusher.specs.Kept.{Kept, StandsFor, IsInOrder, IsNotBelow, last_failed}
+use Rattle.std.proofs.Common.{◌≡◌, Some, refl, sym, ◌∙◌}
+use Rattle.mx_pusher.specs.Kept.{IsNotBelow, last_failed}
 use Rattle.mx_pusher.specs.contracts.pusher.Pusher.{the_view}
 use Rattle.mx_pusher.proofs.Failing.{after_failure}
 use Rattle.mx_pusher.proofs.pusher.Pusher.failed.Goals as goal
