@@ -1,12 +1,12 @@
--- What a pusher keeps after a failure is that of the run with the failure.
+-- What a pusher keeps after a failure is that of the course with the failure.
 use Rattle.std.proofs.Common.{◌≡◌, ℕ, ◌+◌, ◌-◌, ◌*◌, ◌^◌, ◌≤◌, min, suc, length, Option, Some, None, eqb, Bool, true, false, if◌then◌else◌, ◌∷◌, refl, ap, sym, ◌∙◌, arith}
 use Rattle.std.specs.Option.{option_or}
 use Rattle.std.proofs.lemmas.Bool.{eqb-true, eqb-false}
 use Rattle.std.proofs.lemmas.Grind.{common_steps}
 use Rattle.std.proofs.Math.Nat.{pow-succ'}
 use Rattle.mx_pusher.specs.declared.failure.Failure.{Failure}
-use Rattle.mx_pusher.specs.Run.{Run, failed, backoff, recent_failures, last_failed_in, first_failure}
-use Rattle.mx_pusher.specs.Kept.{Kept, StandsFor, IsNotBelow, first_kept, position_of, last_failed}
+use Rattle.mx_pusher.specs.Course.{Course, failed, backoff, recent_failures, last_failed_in, first_failure}
+use Rattle.mx_pusher.specs.Track.{Track, StandsFor, IsNotBelow, first_kept, position_of, last_failed}
 
 doubles : (count : ℕ) → 2 ^ (count + 1 + 1 - 1) ≡ 2 * 2 ^ (count + 1 - 1)
 doubles count =
@@ -26,7 +26,7 @@ pub first_kept-above : (failing : Option Failure) (position other : ℕ)
 first_kept-above None position other below above = refl
 first_kept-above (Some failure) position other below above = grind (arith, common_steps)
 
--- the first failure of a position is that of the run with one more failure
+-- the first failure of a position is that of the course with one more failure
 first_of_more : (failing : Option Failure) (position now other moment : ℕ) (earlier : Option ℕ) (same : Bool)
     → IsNotBelow (position_of failing) position
     → Some moment ≡ option_or (first_kept failing position) (Some now)
@@ -47,20 +47,20 @@ still_not_below : (last : Option ℕ) (position other : ℕ) → IsNotBelow last
 still_not_below None position other below above = tt
 still_not_below (Some last) position other below above = omega arith
 
-pub after_failure : (kept later : Kept) (run : Run) (position now : ℕ) (first : Failure)
-    → StandsFor kept run → IsNotBelow (last_failed kept) position
+pub after_failure : (kept later : Track) (course : Course) (position now : ℕ) (first : Failure)
+    → StandsFor kept course → IsNotBelow (last_failed kept) position
     → first.position ≡ position → Some first.moment ≡ option_or (first_kept kept.failing position) (Some now)
     → later.in_flight ≡ None → later.pause ≡ min 3600000 (2 * kept.pause)
     → later.next ≡ Some (now + kept.pause) → later.failing ≡ Some first
-    → StandsFor later (failed position now ∷ run)
-after_failure kept later run position now first stands order place moment idle pause next failing = record {
+    → StandsFor later (failed position now ∷ course)
+after_failure kept later course position now first stands order place moment idle pause next failing = record {
   in_flight = idle;
-  pause = rw pause (rw stands.pause (backoff-next (length (recent_failures run))));
+  pause = rw pause (rw stands.pause (backoff-next (length (recent_failures course))));
   next = next ∙ ap (λ n. Some (now + n)) stands.pause;
   last_failed = ap position_of failing ∙ ap Some place;
   first = λ other above.
-      let below : IsNotBelow (last_failed_in run) other =
+      let below : IsNotBelow (last_failed_in course) other =
       rw (sym stands.last_failed) (still_not_below (last_failed kept) position other order above) in
       rw failing (rw place (first_of_more kept.failing position now other first.moment
-      (first_failure run other) (eqb position other) order moment above (stands.first other below) refl));
+      (first_failure course other) (eqb position other) order moment above (stands.first other below) refl));
 }

@@ -1,2 +1,2 @@
-pub mod Run
-pub mod Kept
+pub mod Course
+pub mod Track

@@ -8,7 +8,7 @@ pub(crate) struct Failure {
 impl Failure {
     ghost use Rattle.std.specs.Prelude.{◌≡◌, Some};
     ghost use Rattle.std.specs.Option.{option_or};
-    ghost use Rattle.mx_pusher.specs.Kept.{first_kept};
+    ghost use Rattle.mx_pusher.specs.Track.{first_kept};
 
     /// The first failure of a position that failed now, where `kept` is that of the last position
     /// that failed before.

@@ -2,8 +2,8 @@
 //! position that keeps failing is to be given up.
 //!
 //! Nothing here takes memory or reads a clock. Moments are milliseconds, at most 2^53 - 1, and are
-//! handed in by the caller, whose condition is that they never fall from call to call. What was
-//! said of a pusher is a `Run` of `specs/Run.antt`, which has the words in flight, due and ripe.
+//! handed in by the caller, whose condition is that they never fall from call to call. What became
+//! of a pusher is a `Course` of `specs/Course.antt`, which has the words in flight, due and ripe.
 #![tactic(auto)]
 
 mod failure;

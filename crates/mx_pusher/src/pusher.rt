@@ -12,7 +12,7 @@ const LONGEST_PAUSE: u64 = 3_600_000;
 /// For how long a position may fail before it is given up, in milliseconds.
 const PATIENCE: u64 = 86_400_000;
 
-/// What one pusher's posts came to in this run.
+/// What became of one pusher in this run.
 ///
 /// A post is in flight from [`post`](Pusher::post) until it failed or was settled. After the k-th
 /// failure since the last settlement the pusher isn't due for 1000 * 2^(k - 1) milliseconds, and
@@ -31,9 +31,9 @@ pub struct Pusher {
 
 impl Model for Pusher {
     ghost use Rattle.std.specs.Prelude.{◌≤◌};
-    ghost use Rattle.mx_pusher.specs.Kept.{Kept, IsInOrder, position_of};
+    ghost use Rattle.mx_pusher.specs.Track.{Track, IsInOrder, position_of};
 
-    ghost Value = { Kept };
+    ghost Value = { Track };
 
     ghost view = { λ p. record {
       number = p.number;
@@ -48,15 +48,15 @@ impl Model for Pusher {
 }
 
 impl Pusher {
-    ghost use Rattle.mx_pusher.specs.Run.{posted, failed, settled, backoff, recent_failures, IsDue, IsRipe};
-    ghost use Rattle.mx_pusher.specs.Kept.{StandsFor, EachRun, IsNotBelow, last_failed, greatest_moment};
+    ghost use Rattle.mx_pusher.specs.Course.{posted, failed, settled, backoff, recent_failures, IsDue, IsRipe};
+    ghost use Rattle.mx_pusher.specs.Track.{StandsFor, EachCourse, IsNotBelow, last_failed, greatest_moment};
 
-    /// A pusher of this number of which nothing was said in this run.
+    /// A pusher of this number, of which nothing became yet in this run.
     pub fn new(number: u64) -> Pusher
         ensures number { result.number ≡ number }
         ensures idle { result.in_flight ≡ None }
         ensures unfailed { last_failed result ≡ None }
-        ensures run { StandsFor result [] }
+        ensures course { StandsFor result [] }
     {
         Pusher {
             number,
@@ -94,7 +94,7 @@ impl Pusher {
     /// Whether it may be posted at this moment: nothing is in flight, and it has not failed since
     /// its last settlement or has waited long enough since.
     pub fn due(&self, now: u64) -> bool
-        ensures { EachRun self.now (λ run. IsTrue result ↔ IsDue run now) }
+        ensures { EachCourse self.now (λ course. IsTrue result ↔ IsDue course now) }
     {
         self.in_flight.is_none() && self.has_waited(now)
     }
@@ -116,7 +116,7 @@ impl Pusher {
         ensures number { self.new.number ≡ self.old.number }
         ensures flying { self.new.in_flight ≡ Some position }
         ensures failed { last_failed self.new ≡ last_failed self.old }
-        ensures run { EachRun self.old (λ run. StandsFor self.new (posted position ∷ run)) }
+        ensures course { EachCourse self.old (λ course. StandsFor self.new (posted position ∷ course)) }
     {
         self.in_flight = Some(position);
     }
@@ -128,10 +128,10 @@ impl Pusher {
         ensures number { self.new.number ≡ self.old.number }
         ensures idle { self.new.in_flight ≡ None }
         ensures failed { last_failed self.new ≡ self.old.in_flight }
-        ensures next { EachRun self.old
-            (λ run. result ≡ now + backoff (length (recent_failures run) + 1)) }
-        ensures run { EachRun self.old (λ run. IfSome self.old.in_flight
-            (λ position. StandsFor self.new (failed position now ∷ run))) }
+        ensures next { EachCourse self.old
+            (λ course. result ≡ now + backoff (length (recent_failures course) + 1)) }
+        ensures course { EachCourse self.old (λ course. IfSome self.old.in_flight
+            (λ position. StandsFor self.new (failed position now ∷ course))) }
     {
         let next = now + self.pause;
         let position = self.in_flight.take().unwrap();
@@ -147,7 +147,7 @@ impl Pusher {
         ensures number { self.new.number ≡ self.old.number }
         ensures idle { self.new.in_flight ≡ None }
         ensures failed { last_failed self.new ≡ last_failed self.old }
-        ensures run { EachRun self.old (λ run. StandsFor self.new (settled ∷ run)) }
+        ensures course { EachCourse self.old (λ course. StandsFor self.new (settled ∷ course)) }
     {
         self.in_flight = None;
         self.begin_anew();
@@ -157,8 +157,8 @@ impl Pusher {
     /// if it is the least pending one. Whether the pusher is due makes no difference.
     pub fn ripe(&self, position: u64, now: u64) -> Option<u64>
         requires order { IsNotBelow (last_failed self.now) position }
-        ensures { EachRun self.now
-            (λ run. (since : ℕ) → (result ≡ Some since) ↔ IsRipe run position now since) }
+        ensures { EachCourse self.now
+            (λ course. (since : ℕ) → (result ≡ Some since) ↔ IsRipe course position now since) }
     {
         match Failure::since(self.failing, position) {
             Some(since) if self.in_flight.is_none() && now.saturating_sub(since) >= PATIENCE => {
@@ -174,7 +174,7 @@ impl Pusher {
         ensures number { self.new.number ≡ self.old.number }
         ensures idle { self.new.in_flight ≡ None }
         ensures failed { last_failed self.new ≡ last_failed self.old }
-        ensures run { EachRun self.old (λ run. StandsFor self.new (settled ∷ run)) }
+        ensures course { EachCourse self.old (λ course. StandsFor self.new (settled ∷ course)) }
     {
         self.begin_anew();
     }

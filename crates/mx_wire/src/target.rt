@@ -28,7 +28,7 @@ impl Model for Target {
 
 impl Target {
     ghost use Rattle.mx_json.specs.Gives.{Gives};
-    ghost use Rattle.url.specs.Parts.{serialize};
+    ghost use Rattle.url.specs.Parts.{serialize, IsValid};
     ghost use Rattle.mx_wire.specs.Target.{authority_of, is_target, target_in};
 
     /// Reads the URL of a push gateway, by the URL Standard: its scheme is `http` or `https`, its
@@ -53,6 +53,7 @@ impl Target {
     pub fn text(&self) -> &str
         ensures text { result.now ≡ serialize self.now }
         ensures ascii { IsAscii result.now }
+        ensures valid { IsValid self.now }
         ensures target { is_target self.now ≡ true }
     {
         self.url.as_str()

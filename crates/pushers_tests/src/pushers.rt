@@ -1,6 +1,6 @@
 //! Backoff and giving up, at the moments where they change.
 ghost use Rattle.std.specs.Prelude.{◌≡◌, ◌≤◌, None, Some};
-ghost use Rattle.mx_pusher.specs.Kept.{IsNotBelow, greatest_moment, last_failed};
+ghost use Rattle.mx_pusher.specs.Track.{IsNotBelow, greatest_moment, last_failed};
 
 use mx_pusher::Pusher;
 

@@ -1,5 +1,5 @@
 use Rattle.std.proofs.Common.{◌≡◌, None}
-use Rattle.mx_pusher.specs.Kept.{IsNotBelow, last_failed}
+use Rattle.mx_pusher.specs.Track.{IsNotBelow, last_failed}
 use Rattle.pushers_tests.proofs.pushers.next_after.Given as goal
 
 abbrev pub invariant-loop : goal.invariant-loop

@@ -1,22 +1,22 @@
--- What was said of one pusher in this run, and what follows from it: what is in flight, when the
+-- What became of one pusher in this run, and what follows from it: what is in flight, when the
 -- pusher is due, and when a giving up is ripe. Ours; moments are in milliseconds.
 use Rattle.std.specs.Prelude.{◌≡◌, ℕ, ◌+◌, ◌-◌, ◌*◌, ◌^◌, ◌≤◌, min, List, [], ◌∷◌, length, Option, Some, None, IfSome, eqb, if◌then◌else◌}
 use Rattle.std.specs.Option.{option_or}
 use Rattle.mx_pusher.specs.declared.failure.Failure.{Failure}
 
--- an exchange was opened for a position; it failed at a moment, and the pusher was in flight for
--- this position; or the pusher's exchange was settled or its position given up
-pub data Notice : Type 0 where
-  posted : ℕ → Notice
-  failed : ℕ → ℕ → Notice
-  settled : Notice
+-- an exchange was opened for a position; the exchange for a position failed at a moment; or an
+-- exchange was settled or a position given up, which settles it
+pub data PusherStep : Type 0 where
+  posted : ℕ → PusherStep
+  failed : ℕ → ℕ → PusherStep
+  settled : PusherStep
 
--- what was said of a pusher in this run, the newest first
-abbrev pub Run : Type 0
-Run = List Notice
+-- what became of a pusher in this run, the newest step first
+abbrev pub Course : Type 0
+Course = List PusherStep
 
--- the position that is in flight, which the last notice says
-abbrev pub flight_in : Run → Option ℕ
+-- the position that is in flight: that of the last step, where it opened an exchange
+abbrev pub flight_in : Course → Option ℕ
 flight_in [] = None
 flight_in (posted position ∷ _) = Some position
 flight_in (failed _ _ ∷ _) = None
@@ -25,7 +25,7 @@ flight_in (settled ∷ _) = None
 -- ---- backoff
 
 -- the failures since the last settlement, the newest first
-abbrev pub recent_failures : Run → List Failure
+abbrev pub recent_failures : Course → List Failure
 recent_failures [] = []
 recent_failures (posted _ ∷ earlier) = recent_failures earlier
 recent_failures (failed position moment ∷ earlier) =
@@ -42,26 +42,26 @@ abbrev pub next_after : List Failure → Option ℕ
 next_after [] = None
 next_after (last ∷ before) = Some (last.moment + backoff (length before + 1))
 
-abbrev pub next_in : Run → Option ℕ
-next_in run = next_after (recent_failures run)
+abbrev pub next_in : Course → Option ℕ
+next_in course = next_after (recent_failures course)
 
 -- A pusher is due where nothing is in flight, and it has not failed since the last settlement or
 -- has waited long enough.
-pub record IsDue (run : Run) (now : ℕ) : Type 0 where
-  pub idle : flight_in run ≡ None
-  pub waited : IfSome (next_in run) (λ next. next ≤ now)
+pub record IsDue (course : Course) (now : ℕ) : Type 0 where
+  pub idle : flight_in course ≡ None
+  pub waited : IfSome (next_in course) (λ next. next ≤ now)
 
 -- ---- giving up
 
 -- the last position that failed in this run
-abbrev pub last_failed_in : Run → Option ℕ
+abbrev pub last_failed_in : Course → Option ℕ
 last_failed_in [] = None
 last_failed_in (posted _ ∷ earlier) = last_failed_in earlier
 last_failed_in (failed position _ ∷ _) = Some position
 last_failed_in (settled ∷ earlier) = last_failed_in earlier
 
 -- the moment of the first failure of this position in this run
-abbrev pub first_failure : Run → ℕ → Option ℕ
+abbrev pub first_failure : Course → ℕ → Option ℕ
 first_failure [] position = None
 first_failure (posted _ ∷ earlier) position = first_failure earlier position
 first_failure (failed other moment ∷ earlier) position =
@@ -74,7 +74,7 @@ patience = 86400000
 
 -- A giving up of the position, where that is the least pending one, is ripe where nothing is in
 -- flight and the position failed first at this moment, a day ago or earlier.
-pub record IsRipe (run : Run) (position now since : ℕ) : Type 0 where
-  pub idle : flight_in run ≡ None
-  pub first : first_failure run position ≡ Some since
+pub record IsRipe (course : Course) (position now since : ℕ) : Type 0 where
+  pub idle : flight_in course ≡ None
+  pub first : first_failure course position ≡ Some since
   pub past : since + patience ≤ now
