@@ -116,7 +116,8 @@ impl Pusher {
         ensures number { self.new.number ≡ self.old.number }
         ensures flying { self.new.in_flight ≡ Some position }
         ensures failed { last_failed self.new ≡ last_failed self.old }
-        ensures course { EachCourse self.old (λ course. StandsFor self.new (posted position ∷ course)) }
+        ensures course { EachCourse self.old
+            (λ course. StandsFor self.new (posted position ∷ course)) }
     {
         self.in_flight = Some(position);
     }
