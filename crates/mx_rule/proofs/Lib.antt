@@ -1,5 +1,8 @@
+pub mod ChangeLemmas
 pub mod ActionLemmas
 pub mod Deciding
+pub mod EditLemmas
+pub mod EditedLemmas
 pub mod FirstMatchLemmas
 pub mod JudgedLemmas
 pub mod ListLemmas

@@ -1,5 +1,6 @@
 pub mod Actions
 pub mod Deciding
+pub mod Editing
 pub mod Judged
 pub mod Predefined
 pub mod Printed

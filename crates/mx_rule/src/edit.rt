@@ -61,3 +61,19 @@ pub enum Part {
     /// The actions.
     Actions,
 }
+
+/// Why an edit of a user's rules is refused, in the order in which the causes are tested.
+#[derive(Clone, Copy, Debug, PartialEq, Eq)]
+pub enum EditRefusal {
+    /// A put or a delete of an id that begins with a full stop, or a put of one that holds a slash
+    /// or a backslash.
+    RuleReserved,
+    /// This part is the first that is wrong.
+    BadRule(Part),
+    /// The kind has no rule with this id.
+    RuleUnknown,
+    /// What is to stand beside the rule isn't another rule of its kind that the user made.
+    AnchorUnknown,
+    /// The user has 1,000 rules already, and the rule isn't one of them.
+    RulesFull,
+}

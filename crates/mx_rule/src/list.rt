@@ -1,9 +1,12 @@
-ghost use Rattle.std.specs.Prelude.{◌≡◌, true, false, [], ◌∷◌, ◌++◌, map, string_bytes, IfOk, OnOk};
+ghost use Rattle.std.specs.Prelude.{◌≡◌, ◌<◌, true, false, [], ◌∷◌, ◌++◌, length, map, position, remove, string_bytes, IfOk, IfSome, OnOk};
 ghost use Rattle.std.specs.List.{list_any};
 ghost use Rattle.std.specs.Str.{bytes_eq};
 ghost use Rattle.indexmap.specs.IndexMap.{keys, values};
+ghost use Rattle.mx_rule.specs.Editing.{changed, changed_at, has_id, with_actions, with_enabled};
 ghost use Rattle.mx_rule.specs.Ruleset.{are_distinct, ids_of};
 
+use crate::actions::Actions;
+use crate::list_change::ListChange;
 use crate::rule::Rule;
 use indexmap::IndexMap;
 use mx_json::OutOfMemory;
@@ -61,6 +64,48 @@ impl RuleList {
         ensures distinct { are_distinct (ids_of self.now) ≡ true }
     {
         self.rules.values().as_slice()
+    }
+
+    /// The place of the rule with this id; `None` exactly where there is none.
+    pub fn place_of(&self, id: &str) -> Option<usize>
+        ensures place { result ≡ position (has_id id.now) self.now }
+        ensures within { IfSome result (λ index. index < length self.now) }
+    {
+        self.rules.get_index_of(id)
+    }
+
+    // Makes a change of the rules. It takes no memory.
+    pub(crate) fn change(&mut self, change: ListChange)
+        ensures { self.new ≡ changed change self.old }
+    {
+        match change {
+            ListChange::Replace(list) => *self = list,
+            ListChange::Remove(index) => self.remove(index),
+            ListChange::Enable(index, enabled) => self.set_enabled(index, enabled),
+            ListChange::SetActions(index, actions) => self.set_actions(index, actions),
+        }
+    }
+
+    fn remove(&mut self, index: usize)
+        ensures { self.new ≡ remove self.old index }
+    {
+        let _removed = self.rules.shift_remove_index(index);
+    }
+
+    fn set_enabled(&mut self, index: usize, enabled: bool)
+        ensures { self.new ≡ changed_at index (with_enabled enabled) self.old }
+    {
+        if let Some(rule) = self.rules.get_index_mut(index) {
+            rule.set_enabled(enabled);
+        }
+    }
+
+    fn set_actions(&mut self, index: usize, actions: Actions)
+        ensures { self.new ≡ changed_at index (with_actions actions) self.old }
+    {
+        if let Some(rule) = self.rules.get_index_mut(index) {
+            rule.set_actions(actions);
+        }
     }
 
     /// An equal list of its own.

@@ -5,11 +5,14 @@ ghost use Rattle.mx_json.specs.Json.{is_valid};
 ghost use Rattle.mx_cond.specs.Facts.{told_by};
 ghost use Rattle.mx_rule.specs.Actions.{action_of, verdict_of};
 ghost use Rattle.mx_rule.specs.Deciding.{may_decide};
+ghost use Rattle.mx_rule.specs.Editing.{with_actions, with_enabled};
 ghost use Rattle.mx_rule.specs.Rule.{conditions_of, has_mentions, is_passed_over, looks_for_mention, pattern_of, MayDecide};
+ghost use Rattle.mx_rule.specs.Ruleset.{is_master, is_own};
 
 use crate::action::Action;
 use crate::actions::Actions;
 use crate::criterion::Criterion;
+use crate::kind::Kind;
 use crate::verdict::Verdict;
 use mx_cond::{Condition, Facts};
 use mx_event::Event;
@@ -107,6 +110,37 @@ impl Rule {
         ensures valid { list_all is_valid self.now.actions ≡ true }
     {
         self.actions.given()
+    }
+
+    /// Whether a rule of this kind is the one that switches all others off.
+    pub fn is_master(&self, kind: Kind) -> bool
+        ensures { result ≡ is_master kind self.now }
+    {
+        match kind {
+            Kind::Override => self.id.as_str() == ".m.rule.master",
+            _ => false,
+        }
+    }
+
+    /// Whether a rule of this kind was made by the user.
+    pub fn is_own(&self, kind: Kind) -> bool
+        ensures { result ≡ is_own kind self.now }
+    {
+        !self.is_master(kind) && !self.predefined
+    }
+
+    // Enables or disables the rule.
+    pub(crate) fn set_enabled(&mut self, enabled: bool)
+        ensures { self.new ≡ with_enabled enabled self.old }
+    {
+        self.enabled = enabled;
+    }
+
+    // Sets what the rule does.
+    pub(crate) fn set_actions(&mut self, actions: Actions)
+        ensures { self.new ≡ with_actions actions self.old }
+    {
+        self.actions = actions;
     }
 
     /// What it asks of an event.

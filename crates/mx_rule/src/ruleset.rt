@@ -1,10 +1,12 @@
-ghost use Rattle.std.specs.Prelude.{◌≡◌, true, slice_get, IfOk};
+ghost use Rattle.std.specs.Prelude.{◌≡◌, ◌<◌, true, length, position, slice_get, IfOk, IfSome};
 ghost use Rattle.std.specs.Option.{option_copied};
 ghost use Rattle.mx_cond.specs.Facts.{told_by};
+ghost use Rattle.mx_rule.specs.Editing.{changed, has_id, with_list};
 ghost use Rattle.mx_rule.specs.Ruleset.{are_rules_of, by_importance, flat, placed, rules_of_kind, IsFirstMatch};
 
 use crate::kind::{Kind, RulePlace};
 use crate::list::RuleList;
+use crate::list_change::ListChange;
 use crate::rule::Rule;
 use mx_cond::Facts;
 use mx_glob::Scratch;
@@ -87,12 +89,19 @@ impl Ruleset {
         ensures rules { result.now ≡ rules_of_kind kind self.now }
         ensures ordered { are_rules_of kind result.now ≡ true }
     {
+        self.list(kind).as_slice()
+    }
+
+    fn list(&self, kind: Kind) -> &RuleList
+        ensures list { result.now ≡ rules_of_kind kind self.now }
+        ensures ordered { are_rules_of kind result.now ≡ true }
+    {
         match kind {
-            Kind::Override => self.override_.as_slice(),
-            Kind::Content => self.content.as_slice(),
-            Kind::Room => self.room.as_slice(),
-            Kind::Sender => self.sender.as_slice(),
-            Kind::Underride => self.underride.as_slice(),
+            Kind::Override => &self.override_,
+            Kind::Content => &self.content,
+            Kind::Room => &self.room,
+            Kind::Sender => &self.sender,
+            Kind::Underride => &self.underride,
         }
     }
 
@@ -102,6 +111,31 @@ impl Ruleset {
             ≡ slice_get (rules_of_kind place.now.kind self.now) place.now.index }
     {
         self.rules(place.kind).get(place.index)
+    }
+
+    /// The place of the rule of this kind with this id; `None` exactly where there is none.
+    pub fn place_of(&self, kind: Kind, id: &str) -> Option<usize>
+        ensures place { result ≡ position (has_id id.now) (rules_of_kind kind self.now) }
+        ensures within { IfSome result (λ index. index < length (rules_of_kind kind self.now)) }
+        ensures ordered { are_rules_of kind (rules_of_kind kind self.now) ≡ true }
+    {
+        self.list(kind).place_of(id)
+    }
+
+    /// Makes a change of the rules of a kind, after which they still have their kind's criterion,
+    /// stand in order of importance, and have no two of one id. It takes no memory.
+    pub fn change(&mut self, kind: Kind, change: ListChange)
+        requires { are_rules_of kind (changed change (rules_of_kind kind self.old)) ≡ true }
+        ensures { self.new
+            ≡ with_list kind (changed change (rules_of_kind kind self.old)) self.old }
+    {
+        match kind {
+            Kind::Override => self.override_.change(change),
+            Kind::Content => self.content.change(change),
+            Kind::Room => self.room.change(change),
+            Kind::Sender => self.sender.change(change),
+            Kind::Underride => self.underride.change(change),
+        }
     }
 
     /// The place of the rule that decides for an event: in order of importance the first that is
