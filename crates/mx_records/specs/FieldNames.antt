@@ -1,8 +1,11 @@
 -- The names of the fields of a command, as its object spells them and a refusal prints them: ours.
 use Rattle.std.specs.Prelude.{ℕ, List, codes}
+use Rattle.mx_rule.specs.declared.edit.Part.{Part}
+use Rattle.mx_rule.specs.declared.edit.Part.TheVariants as part
 use Rattle.mx_records.specs.declared.field_name.FieldName.{FieldName}
 use Rattle.mx_records.specs.declared.field_name.FieldName.TheVariants.{Cmd, EventEventId, EventRoomId, EventSender, EventKind, EventContent, EventStateKey, User, Kind, RuleId, Actions, Conditions, Pattern, Before, After, Enabled, RoomId, EventId, ReceiptKind, ThreadId, Pushkey, AppId, AppDisplayName, DeviceDisplayName, Lang, Data, DataUrl, DataFormat, Append, Ts, Threads, Units}
 
+-- the name of a field, with a full stop between the names of an object and of its member
 abbrev pub name_of : FieldName → List ℕ
 name_of Cmd = codes "cmd"
 name_of EventEventId = codes "event.event_id"
@@ -36,3 +39,10 @@ name_of Append = codes "append"
 name_of Ts = codes "ts"
 name_of Threads = codes "threads"
 name_of Units = codes "units"
+
+-- the field of a command that a part of an edit stands in
+abbrev pub field_of_part : Part → FieldName
+field_of_part part.RuleId = RuleId
+field_of_part part.Pattern = Pattern
+field_of_part part.Conditions = Conditions
+field_of_part part.Actions = Actions

@@ -1,19 +1,25 @@
 -- What an object has to hold to be an input, field by field: ours.
-use Rattle.std.specs.Prelude.{Bool, List, map, codes, Option, None, Some, option_and_then, unwrap_or, Result, Ok, Err}
+use Rattle.std.specs.Prelude.{ℕ, Bool, true, false, ◌&&◌, nat_le, if◌then◌else◌, List, [], ◌∷◌, ◌++◌, length, map, codes, Option, None, Some, is_some, option_and_then, option_map, unwrap_or, Result, Ok, Err}
 use Rattle.std.specs.Option.{option_map_or}
+use Rattle.std.specs.Str.{bytes_eq}
 use Rattle.mx_json.specs.declared.value.Json.{Json, Null}
-use Rattle.mx_json.specs.Json.{member}
+use Rattle.mx_json.specs.declared.value.JsonList.{JsonList}
+use Rattle.mx_json.specs.Ids.{is_user_id}
+use Rattle.mx_json.specs.Json.{list_at, list_of, member, text_at, text_of, text_or_empty, truth_at}
 use Rattle.mx_event.specs.declared.error.EventField.{EventField}
 use Rattle.mx_event.specs.declared.error.EventField.TheVariants as event_field
 use Rattle.mx_event.specs.Event.{fields_of, first_wrong}
+use Rattle.mx_rule.specs.declared.edit.Edit.TheVariants.{Put, Delete, Enable, SetActions}
+use Rattle.mx_rule.specs.declared.kind.Kind.{Kind}
+use Rattle.mx_rule.specs.declared.kind.Kind.TheVariants as kind
 use Rattle.mx_records.specs.declared.field_name.FieldName.{FieldName}
-use Rattle.mx_records.specs.declared.field_name.FieldName.TheVariants.{Cmd, EventEventId, EventRoomId, EventSender, EventKind, EventContent, EventStateKey}
+use Rattle.mx_records.specs.declared.field_name.FieldName.TheVariants.{Cmd, EventEventId, EventRoomId, EventSender, EventKind, EventContent, EventStateKey, User, Kind as KindField, RuleId, Actions, Conditions, Pattern, Before, After, Enabled}
 use Rattle.mx_records.specs.declared.input.Input.{Input}
-use Rattle.mx_records.specs.declared.input.Input.TheVariants.{Event}
+use Rattle.mx_records.specs.declared.input.Input.TheVariants.{Event, Edit}
 use Rattle.mx_records.specs.declared.input_error.InputError.{InputError}
 use Rattle.mx_records.specs.declared.input_error.InputError.TheVariants.{BadField}
 use Rattle.mx_records.specs.declared.input_word.InputWord.{InputWord}
-use Rattle.mx_records.specs.declared.input_word.InputWord.TheVariants.{Event as EventWord}
+use Rattle.mx_records.specs.declared.input_word.InputWord.TheVariants.{Event as EventWord, RulePut, RuleDelete, RuleEnable, RuleActions}
 use Rattle.mx_records.specs.InputWords.{input_word_in}
 
 -- A form: the fields of an object in their order, each with whether it is right, and what the
@@ -49,9 +55,110 @@ event_form json = record {
   value = Event (event_in json);
 }
 
+-- ---- what stands in an edit of rules
+
+-- the value of `user`, and the empty text where that is none
+abbrev pub user_in : Json → List ℕ
+user_in json = text_or_empty (codes "user") json
+
+-- the kind of rules that a text names
+unfoldable pub kind_named : List ℕ → Option Kind
+kind_named text =
+    if bytes_eq text (codes "override") then Some kind.Override
+    else (if bytes_eq text (codes "content") then Some kind.Content
+    else (if bytes_eq text (codes "room") then Some kind.Room
+    else (if bytes_eq text (codes "sender") then Some kind.Sender
+    else (if bytes_eq text (codes "underride") then Some kind.Underride
+    else None))))
+
+-- the kind of rules that stands under `kind`
+abbrev pub kind_in : Json → Option Kind
+kind_in json = option_and_then kind_named (text_at (codes "kind") json)
+
+-- the kind of rules that is edited; where none is named the field `kind` is wrong
+abbrev pub edited_kind_in : Json → Kind
+edited_kind_in json = unwrap_or (kind_in json) kind.Override
+
+-- the value of `rule_id`, and the empty text where that is none
+abbrev pub rule_id_in : Json → List ℕ
+rule_id_in json = text_or_empty (codes "rule_id") json
+
+-- a rule's id has 1 to 512 bytes
+abbrev pub is_rule_id : List ℕ → Bool
+is_rule_id id = nat_le 1 (length id) && nat_le (length id) 512
+
+-- the list that stands under a key
+abbrev pub given_list : List ℕ → Json → Option JsonList
+given_list key json = option_map (λ items. record { items = items }) (list_at key json)
+
+-- the list under `actions`, and the empty one where there is none
+abbrev pub actions_in : Json → JsonList
+actions_in json = unwrap_or (given_list (codes "actions") json) (record { items = [] })
+
+-- nothing stands under a key, or a text
+abbrev pub has_text_or_none : List ℕ → Json → Bool
+has_text_or_none key json = option_map_or (λ value. is_some (text_of value)) (member key json) true
+
+-- nothing stands under a key, or a list
+abbrev pub has_list_or_none : List ℕ → Json → Bool
+has_list_or_none key json = option_map_or (λ value. is_some (list_of value)) (member key json) true
+
+-- whose rule is edited, of which kind, and which one
+abbrev pub rule_fields : Json → List (FieldName × Bool)
+rule_fields json =
+    (User, is_user_id (user_in json)) ∷ (KindField, is_some (kind_in json))
+    ∷ (RuleId, is_rule_id (rule_id_in json)) ∷ []
+
+-- the actions that a rule is to have
+abbrev pub actions_field : Json → FieldName × Bool
+actions_field json = (Actions, is_some (list_at (codes "actions") json))
+
+-- the fields of `rule_put`
+abbrev pub put_fields : Json → List (FieldName × Bool)
+put_fields json =
+    rule_fields json
+    ++ (actions_field json ∷ (Conditions, has_list_or_none (codes "conditions") json)
+    ∷ (Pattern, has_text_or_none (codes "pattern") json) ∷ (Before, has_text_or_none (codes "before") json)
+    ∷ (After, has_text_or_none (codes "after") json) ∷ [])
+
+-- `rule_put`
+abbrev pub put_form : Json → Form Input
+put_form json = record {
+  fields = put_fields json;
+  value = Edit (user_in json)
+      (Put (edited_kind_in json) (rule_id_in json) (text_at (codes "pattern") json) (given_list (codes "conditions") json)
+      (actions_in json) (text_at (codes "before") json) (text_at (codes "after") json));
+}
+
+-- `rule_delete`
+abbrev pub delete_form : Json → Form Input
+delete_form json = record {
+  fields = rule_fields json;
+  value = Edit (user_in json) (Delete (edited_kind_in json) (rule_id_in json));
+}
+
+-- `rule_enable`
+abbrev pub enable_form : Json → Form Input
+enable_form json = record {
+  fields = rule_fields json ++ (Enabled, is_some (truth_at (codes "enabled") json)) ∷ [];
+  value = Edit (user_in json)
+      (Enable (edited_kind_in json) (rule_id_in json) (unwrap_or (truth_at (codes "enabled") json) false));
+}
+
+-- `rule_actions`
+abbrev pub set_actions_form : Json → Form Input
+set_actions_form json = record {
+  fields = rule_fields json ++ actions_field json ∷ [];
+  value = Edit (user_in json) (SetActions (edited_kind_in json) (rule_id_in json) (actions_in json));
+}
+
 -- The form of each input that is built.
 abbrev pub input_form_of : InputWord → Json → Option (Form Input)
 input_form_of EventWord json = Some (event_form json)
+input_form_of RulePut json = Some (put_form json)
+input_form_of RuleDelete json = Some (delete_form json)
+input_form_of RuleEnable json = Some (enable_form json)
+input_form_of RuleActions json = Some (set_actions_form json)
 input_form_of other json = None
 
 -- ---- reading an input

@@ -10,20 +10,16 @@ use Rattle.mx_room.specs.State.{RoomState}
 use Rattle.mx_room.specs.Texts.{Texts, table}
 use Rattle.mx_rule.specs.declared.verdict.Verdict.{Verdict}
 use Rattle.mx_rule.specs.Judged.{judged}
-use Rattle.mx_rule.specs.Predefined.{predefined_rules}
 use Rattle.mx_rule.specs.Ruleset.{PushRuleset}
-use Rattle.mx_records.specs.History.{History, Happening}
+use Rattle.mx_records.specs.History.{Happening}
 use Rattle.mx_records.specs.Rooms.{room_after}
+use Rattle.mx_records.specs.Rules.{rules_of}
 
 -- what the rules of a user say of an event, in a room of this state after it; nothing where the
 -- event isn't judged for the user
 abbrev pub verdict_in : List ℕ → (List ℕ → PushRuleset) → RoomState → Json → List ℕ → Option Verdict
 verdict_in server rules room event user =
     judged server user (membership_at room user) (rules user) (facts_of event user room)
-
--- the rules of a user after a history: the predefined ones
-abbrev pub rules_of : List ℕ → History → List ℕ → PushRuleset
-rules_of server h user = predefined_rules server user
 
 -- what a user's rules before an event say of it
 abbrev pub verdict_for : List ℕ → List ℕ → Happening → Option Verdict

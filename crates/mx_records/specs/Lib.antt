@@ -1,5 +1,6 @@
 pub mod History
 pub mod Rooms
+pub mod Rules
 pub mod Judging
 pub mod Counting
 pub mod Places

@@ -7,11 +7,13 @@ use Rattle.mx_room.specs.Rooms.{rooms_of}
 use Rattle.mx_room.specs.State.{RoomState}
 use Rattle.mx_room.specs.Texts.{Texts}
 use Rattle.mx_rows.specs.declared.counts.Counts.{Counts}
+use Rattle.mx_rule.specs.Ruleset.{PushRuleset}
 use Rattle.mx_thread.specs.Place.{Places}
 use Rattle.mx_records.specs.History.{History, Happening, events, inputs_of, position_after}
-use Rattle.mx_records.specs.Judging.{notices_in, rules_of}
+use Rattle.mx_records.specs.Judging.{notices_in}
 use Rattle.mx_records.specs.Places.{places_of}
 use Rattle.mx_records.specs.Rooms.{events_of, room_after}
+use Rattle.mx_records.specs.Rules.{edited_rules, rules_of}
 
 -- An event, and each user whom it notifies with whether it is highlighted.
 pub record Notified : Type 0 where
@@ -32,6 +34,7 @@ pub record Snapshot : Type 0 where
   pub inputs : ℕ  -- how many inputs it has
   pub places : Places  -- where its events are
   pub rooms : Texts RoomState  -- the rooms that have an event
+  pub rules : Texts PushRuleset  -- the rules of those who edited them
   pub notified : List Notified  -- its events with those whom they notify, oldest first
 
 -- what a state of this server knows after this history
@@ -40,6 +43,7 @@ snapshot_of server h = record {
   inputs = inputs_of h;
   places = places_of h;
   rooms = rooms_of (events_of h);
+  rules = edited_rules server h;
   notified = map (notified_by server) (events h);
 }
 

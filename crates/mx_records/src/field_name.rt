@@ -1,5 +1,5 @@
 ghost use Rattle.std.specs.Prelude.{◌≡◌};
-ghost use Rattle.mx_records.specs.FieldNames.{name_of};
+ghost use Rattle.mx_records.specs.FieldNames.{field_of_part, name_of};
 
 use std::fmt;
 
@@ -73,6 +73,18 @@ pub enum FieldName {
 }
 
 impl FieldName {
+    /// The field of a command that a part of an edit stands in.
+    pub fn of_part(part: Part) -> FieldName
+        ensures { result ≡ field_of_part part }
+    {
+        match part {
+            Part::RuleId => FieldName::RuleId,
+            Part::Pattern => FieldName::Pattern,
+            Part::Conditions => FieldName::Conditions,
+            Part::Actions => FieldName::Actions,
+        }
+    }
+
     /// The field's name as an object spells it, with a full stop between the names of an object and
     /// of its member.
     pub fn name(&self) -> &'static str

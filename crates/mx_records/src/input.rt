@@ -1,11 +1,14 @@
 ghost use Rattle.std.specs.Prelude.{◌≡◌, true, IfOk};
 ghost use Rattle.mx_json.specs.Gives.{Gives};
 ghost use Rattle.mx_json.specs.Json.{is_valid};
+ghost use Rattle.mx_records.specs.Rules.{is_valid_input};
 ghost use Rattle.mx_records.specs.Forms.{event_in, name_in_event, event_form, input_in, value_of_form};
 
 use crate::{FieldName, InputError, InputWord};
+use crate::edit_form::{read_delete, read_enable, read_put, read_set_actions};
 use mx_event::{Event, EventError, EventField};
-use mx_json::{Json, OutOfMemory};
+use mx_json::{Json, UserId};
+use mx_rule::Edit;
 use std::alloc::Global;
 
 /// What a history is made of.
@@ -13,6 +16,13 @@ use std::alloc::Global;
 pub enum Input {
     /// An event of a room.
     Event(Event),
+    /// An edit of a user's push rules, in force from the next event on.
+    Edit {
+        /// Whose rules are edited.
+        user: UserId,
+        /// The edit.
+        edit: Edit,
+    },
 }
 
 impl Input {
@@ -26,24 +36,16 @@ impl Input {
     #[tactic(auto, unfolding(crate::specs::Forms::input_in))]
     pub fn from_json(alloc: Global, json: Json) -> Result<Input, InputError>
         requires { is_valid json ≡ true }
-        ensures { Gives InputError.OutOfMemory result (input_in json) }
+        ensures input { Gives InputError.OutOfMemory result (input_in json) }
+        ensures valid { IfOk result (λ input. is_valid_input input ≡ true) }
     {
         match InputWord::of(&json) {
             Some(InputWord::Event) => read_event(alloc, json),
+            Some(InputWord::RulePut) => read_put(alloc, &json),
+            Some(InputWord::RuleDelete) => read_delete(alloc, &json),
+            Some(InputWord::RuleEnable) => read_enable(alloc, &json),
+            Some(InputWord::RuleActions) => read_set_actions(alloc, &json),
             _ => Err(InputError::BadField(FieldName::Cmd)),
-        }
-    }
-
-    /// An equal input.
-    ///
-    /// # Errors
-    ///
-    /// `OutOfMemory` where the allocator has none.
-    pub fn copied(&self, alloc: Global) -> Result<Input, OutOfMemory>
-        ensures { IfOk result (λ input. input ≡ self.now) }
-    {
-        match self {
-            Input::Event(event) => Ok(Input::Event(event.copied(alloc)?)),
         }
     }
 }

@@ -1,11 +1,14 @@
 ghost use Rattle.std.specs.Prelude.{◌≡◌, ◌≤◌, ℕ, List};
+ghost use Rattle.std.specs.Option.{option_copied};
 ghost use Rattle.mx_records.specs.Counting.{counts_of};
 ghost use Rattle.mx_records.specs.History.{History};
 ghost use Rattle.mx_records.specs.Refusing.{most_inputs};
+ghost use Rattle.mx_records.specs.Rules.{own_rules};
 ghost use Rattle.mx_records.specs.Snapshot.{Snapshot, snapshot_of};
 
 use crate::Counts;
 use mx_json::{RoomId, UserId};
+use mx_rule::Ruleset;
 
 /// What a state that stands for a history can be asked. No question takes memory or changes the
 /// state.
@@ -22,4 +25,10 @@ pub trait Questions {
             → result ≡ counts_of (server self.now) h user.now room.now }
         ensures notify_in_range { result.notify ≤ most_inputs }
         ensures highlight_in_range { result.highlight ≤ most_inputs };
+
+    /// The push rules of a user who edited them; `None` exactly for any other user, whose rules are
+    /// the predefined ones.
+    fn rules(&self, user: &UserId) -> Option<&Ruleset>
+        ensures { (h : History) → snapshot self.now ≡ snapshot_of (server self.now) h
+            → option_copied result ≡ own_rules (server self.now) h user.now };
 }

@@ -1,3 +1,8 @@
+ghost use Rattle.std.specs.Prelude.{◌≡◌};
+ghost use Rattle.mx_records.specs.Refusing.{refusal_by};
+
+use crate::field_name::FieldName;
+use mx_rule::{EditRefusal, Part};
 use std::error::Error;
 use std::fmt;
 
@@ -11,6 +16,17 @@ pub enum Refusal {
     NotLocal,
     /// The event id was accepted before, first at this position (from 1).
     KnownEvent(u64),
+    /// A put or a delete of a rule id that begins with a full stop, or a put of one that holds a
+    /// slash or a backslash.
+    RuleReserved,
+    /// This part of an edit of rules is the first that is wrong.
+    BadRule(Part),
+    /// The kind has no rule with this id.
+    RuleUnknown,
+    /// What is to stand beside a rule isn't another rule of its kind that the user made.
+    AnchorUnknown,
+    /// The user made 1,000 rules, and the rule isn't one of them.
+    RulesFull,
     /// The history has 1,000,000 inputs, and takes no more.
     Full,
 }
@@ -22,6 +38,14 @@ impl fmt::Display for Refusal {
             Refusal::KnownEvent(position) => {
                 write!(f, "the event is known, at position {position}")
             }
+            Refusal::RuleReserved => f.write_str("the rule id is reserved"),
+            Refusal::BadRule(part) => {
+                let field = FieldName::of_part(*part);
+                write!(f, "the rule's {field} is wrong")
+            },
+            Refusal::RuleUnknown => f.write_str("there is no such rule"),
+            Refusal::AnchorUnknown => f.write_str("there is no such rule to stand beside"),
+            Refusal::RulesFull => f.write_str("the user has as many rules as a user may have"),
             Refusal::Full => write!(
                 f,
                 "{MOST_INPUTS} inputs were accepted, and no more are taken"
@@ -31,3 +55,17 @@ impl fmt::Display for Refusal {
 }
 
 impl Error for Refusal {}
+
+impl From<EditRefusal> for Refusal {
+    ghost from_gives = { λ refusal result. result ≡ refusal_by refusal };
+
+    fn from(refusal: EditRefusal) -> Refusal {
+        match refusal {
+            EditRefusal::RuleReserved => Refusal::RuleReserved,
+            EditRefusal::BadRule(part) => Refusal::BadRule(part),
+            EditRefusal::RuleUnknown => Refusal::RuleUnknown,
+            EditRefusal::AnchorUnknown => Refusal::AnchorUnknown,
+            EditRefusal::RulesFull => Refusal::RulesFull,
+        }
+    }
+}

@@ -13,17 +13,6 @@ fn read(alloc: Global, text: &str) -> Result<Json, JsonError>
     Json::from_text(alloc, text.as_bytes(), 100)
 }
 
-#[test]
-fn an_input_is_copied(rt: HostRuntime) -> Result<(), Fail> {
-    let alloc = rt.alloc();
-    let text =
-        r#"{"content":{},"event_id":"$1","room_id":"!r","sender":"@a:b","type":"m.room.message"}"#;
-    let input = Input::Event(Event::from_json(alloc, read(alloc, text)?)?);
-    let Input::Event(copy) = input.copied(alloc)?;
-    assert_eq!(rt; copy.event_id().as_text(), "$1");
-    Ok(())
-}
-
 /// The name of the first wrong field; `none` where the value is an input.
 fn wrong_field(alloc: Global, json: Json) -> Result<&'static str, OutOfMemory>
     requires { is_valid json ≡ true }
