@@ -1,9 +1,11 @@
 pub use Rattle.mx_records.specs.History
 pub use Rattle.mx_records.specs.Judging
+pub use Rattle.mx_records.specs.Rules
 pub use Rattle.mx_records.specs.Counting
 pub use Rattle.mx_records.specs.Refusing
 pub use Rattle.mx_records.specs.Snapshot
 pub mod Capacity
+pub mod KeptRules
 pub mod Noticing
 pub mod Planning
 pub mod Preparing

@@ -1,44 +1,69 @@
--- What a plan holds, and for which state it is made: ours.
-use Rattle.std.specs.Prelude.{◌≡◌, ℕ, ◌+◌, ◌≤◌, List, Bool, None}
+-- What a plan changes, and for which state it is made: ours.
+use Rattle.std.specs.Prelude.{◌≡◌, ℕ, ◌+◌, ◌≤◌, true, List, Bool, None}
 use Rattle.mx_json.specs.declared.value.Json.{Json}
+use Rattle.mx_edit.specs.declared.plan.EditPlan.{EditPlan}
+use Rattle.mx_edit.specs.Planning.{is_made_for, IsPlanOf}
 use Rattle.mx_event.specs.Event.{event_id_of, room_id_of}
 use Rattle.mx_room.specs.Change.{sets_of, with_sets}
-use Rattle.mx_room.specs.Rooms.{room_at}
+use Rattle.mx_room.specs.Rooms.{PlannedRoom, room_at}
 use Rattle.mx_room.specs.Texts.{Texts}
 use Rattle.mx_rows.specs.declared.thread_key.ThreadKey.{ThreadKey}
-use Rattle.mx_rule.specs.Predefined.{predefined_rules}
 use Rattle.mx_thread.specs.Place.{place_in, thread_of}
 use Rattle.mx_records.specs.declared.input.Input.{Input}
-use Rattle.mx_records.specs.declared.input.Input.TheVariants.{Event}
-use Rattle.mx_records.specs.History.{History}
+use Rattle.mx_records.specs.declared.input.Input.TheVariants.{Event, Edit}
 use Rattle.mx_records.specs.Judging.{notices_in}
-use Rattle.mx_records.specs.Refusing.{IsAcceptable, most_inputs}
-use Rattle.mx_records.specs.Snapshot.{Snapshot, snapshot_of}
+use Rattle.mx_records.specs.Refusing.{most_inputs}
+use Rattle.mx_records.specs.Rules.{rules_among}
+use Rattle.mx_records.specs.Snapshot.{Snapshot}
 
--- A plan is an input, and what will be kept of it.
-pub record Planned : Type 0 where
-  pub input : Input
-  pub position : ℕ
+-- What is planned for an event: its id, what it sets in its room, its thread, and whom it notifies,
+-- each with whether it is highlighted.
+pub record PlannedEvent : Type 0 where
+  pub id : List ℕ
+  pub room : PlannedRoom
   pub thread : ThreadKey
-  pub users : Texts Bool  -- whom an event notifies, each with whether it is highlighted
+  pub users : Texts Bool
 
--- what is planned for an event is what it leads to in this state
-pub record Suits (server : List ℕ) (shown : Snapshot) (event : Json) (plan : Planned) : Type 0 where
-  pub new : place_in shown.places (event_id_of event) ≡ None
+-- What a plan changes: it adds an event, or edits the rules of a user.
+pub data PlannedChange : Type 0 where
+  pub Adds : PlannedEvent → PlannedChange
+  pub Edits : List ℕ → EditPlan → PlannedChange
+
+-- A plan is a change, and the position that its input will take.
+pub record Planned : Type 0 where
+  pub position : ℕ
+  pub change : PlannedChange
+
+-- ---- what an input leads to
+
+-- what is planned is what this event leads to in this state
+pub record IsPlannedFor (server : List ℕ) (shown : Snapshot) (event : Json) (plan : PlannedEvent) : Type 0 where
+  pub id : plan.id ≡ event_id_of event
+  pub room : plan.room ≡ record { id = room_id_of event; sets = sets_of event }
   pub thread : plan.thread ≡ thread_of (place_in shown.places) event
   pub users : plan.users
-      ≡ notices_in server (predefined_rules server)
+      ≡ notices_in server (rules_among server shown.rules)
       (with_sets (sets_of event) (room_at shown.rooms (room_id_of event))) event
 
--- what is planned for an input is what it leads to in this state
-abbrev pub SuitsInput : List ℕ → Snapshot → Input → Planned → Type 0
-SuitsInput server shown (Event event) plan = Suits server shown event plan
+-- the change is what this input leads to in this state
+abbrev pub Suits : List ℕ → Snapshot → Input → PlannedChange → Type 0
+Suits server shown (Event event) (Adds plan) = IsPlannedFor server shown event plan
+Suits server shown (Edit user edit) (Edits editor plan) =
+    (editor ≡ user) × IsPlanOf edit (rules_among server shown.rules user) plan
+Suits server shown (Event event) (Edits editor plan) = ⊥
+Suits server shown (Edit user edit) (Adds plan) = ⊥
+
+-- ---- for which state a plan is made
+
+-- the change can be made in this state: an event is new there, and an edit is planned for the
+-- user's rules
+abbrev pub Fits : List ℕ → Snapshot → PlannedChange → Type 0
+Fits server shown (Adds plan) = place_in shown.places plan.id ≡ None
+Fits server shown (Edits editor plan) = is_made_for (rules_among server shown.rules editor) plan ≡ true
 
 -- A plan is made for a state: its position is the next one of this snapshot, which an input may
--- have; what it holds is what its input leads to there; and its input is acceptable after each
--- history of which this is the snapshot.
+-- have, and its change can be made there.
 pub record IsMadeFor (server : List ℕ) (shown : Snapshot) (plan : Planned) : Type 0 where
   pub next : plan.position ≡ shown.inputs + 1
   pub in_range : plan.position ≤ most_inputs
-  pub suits : SuitsInput server shown plan.input plan
-  pub acceptable : (h : History) → shown ≡ snapshot_of server h → IsAcceptable server h plan.input
+  pub fits : Fits server shown plan.change

@@ -1,5 +1,5 @@
 -- What may come of preparing an input: ours.
-use Rattle.std.specs.Prelude.{◌≡◌, ℕ, List, Some, Result, Ok, Err}
+use Rattle.std.specs.Prelude.{◌≡◌, List, ℕ, Some, Result, Ok, Err}
 use Rattle.mx_records.specs.declared.input.Input.{Input}
 use Rattle.mx_records.specs.History.{History}
 use Rattle.mx_records.specs.Refusing.{refusal_of, IsAcceptable, NamesAPosition}
@@ -10,7 +10,7 @@ use Rattle.mx_engine.specs.Planning.{Planned}
 -- The outcome of preparing an input: a plan to accept it, where nothing refuses it, or its refusal,
 -- or no memory.
 abbrev pub IsPrepared : List ℕ → History → Input → Result Planned PrepareError → Type 0
-IsPrepared server h input (Ok plan) = (plan.input ≡ input) × IsAcceptable server h input
+IsPrepared server h input (Ok plan) = IsAcceptable server h input
 IsPrepared server h input (Err (Refused refusal)) = refusal_of server h input ≡ Some refusal
 IsPrepared server h input (Err OutOfMemory) = Unit {0}
 
