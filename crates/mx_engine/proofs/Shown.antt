@@ -28,7 +28,9 @@ use Rattle.mx_records.specs.Refusing.{most_inputs, refusal_of, refusal_of_conten
 use Rattle.mx_records.specs.Rooms.{events_of, room_after}
 use Rattle.mx_records.specs.Rules.{edited_rules, rules_among, rules_of}
 use Rattle.mx_records.specs.Snapshot.{Notified, Snapshot, notified_by, snapshot_of}
-use Rattle.mx_records.proofs.HistoryLemmas.{next_event, position_of-placed, room_after-next, rules_among-edited, snapshot_of-edit, snapshot_of-push, with_place-new}
+use Rattle.mx_records.proofs.HistoryLemmas.{next_event, room_after-next, snapshot_of-edit, snapshot_of-push}
+use Rattle.mx_records.proofs.PlacesLemmas.{position_of-places, with_place-new}
+use Rattle.mx_records.proofs.RulesLemmas.{rules_among-edited}
 use Rattle.mx_engine.specs.Planning.{Adds, Edits, Fits, IsPlannedFor, PlannedChange, PlannedEvent, Suits, with_change, with_edit, with_event}
 
 -- what is known before any input
@@ -60,7 +62,7 @@ pub content-found : (server : List ℕ) (h : History) (shown : Snapshot) (places
     → refusal_of_content server h (Event event) ≡ option_map KnownEvent (option_map (λ (place : Place). place.position) found)
 unfolding snapshot_of
 content-found server h shown places event id found is same named answered =
-    ap (option_map KnownEvent) (position_of-placed h (event_id_of event))
+    ap (option_map KnownEvent) (position_of-places h (event_id_of event))
     ∙ ap (λ (s : Snapshot).
     option_map KnownEvent (option_map (λ (place : Place). place.position) (place_in s.places (event_id_of event)))) (sym is)
     ∙ ap (λ (p : Places).

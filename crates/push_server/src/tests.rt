@@ -1,3 +1,5 @@
+mod edited;
+mod edits;
 mod fixtures;
 mod refusals;
 mod rooms;
