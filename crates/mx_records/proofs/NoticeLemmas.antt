@@ -25,8 +25,9 @@ use Rattle.mx_rule.specs.Judged.{invites, is_judged, judged, verdict_by}
 use Rattle.mx_rule.specs.Ruleset.{PushRuleset, flat}
 use Rattle.mx_records.specs.Counting.{counts_of, is_in, is_unread, unread}
 use Rattle.mx_records.specs.History.{History, Happening, events}
-use Rattle.mx_records.specs.Judging.{highlights, notice_in, notice_of, notices_in, notifies, rules_of, verdict_for, verdict_in}
+use Rattle.mx_records.specs.Judging.{highlights, notice_in, notice_of, notices_in, notifies, verdict_for, verdict_in}
 use Rattle.mx_records.specs.Rooms.{events_of, room_after}
+use Rattle.mx_records.specs.Rules.{rules_of}
 use Rattle.mx_records.specs.Snapshot.{Notified, Snapshot, counts_among, is_highlighted_in, is_notified_in, notified_by, snapshot_of}
 
 -- ---- who is notified is a member

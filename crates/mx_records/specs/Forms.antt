@@ -33,6 +33,11 @@ abbrev pub value_of_form : {A E : Type 0} → (FieldName → E) → Form A → R
 value_of_form refusal form =
     option_map_or (λ field. Err (refusal field)) (first_wrong form.fields) (Ok form.value)
 
+-- the value of one field, or its refusal; for private clauses
+abbrev pub checked : {A : Type 0} → FieldName → Bool → A → Result A InputError
+checked field is_right value =
+    value_of_form BadField (record { fields = (field, is_right) ∷ []; value = value })
+
 -- ---- the forms of the inputs
 
 -- the value of `event`, and null where there is none
@@ -108,6 +113,13 @@ abbrev pub rule_fields : Json → List (FieldName × Bool)
 rule_fields json =
     (User, is_user_id (user_in json)) ∷ (KindField, is_some (kind_in json))
     ∷ (RuleId, is_rule_id (rule_id_in json)) ∷ []
+
+-- the rule that is edited: its user, its kind and its id
+abbrev pub rule_form : Json → Form (List ℕ × Kind × List ℕ)
+rule_form json = record {
+  fields = rule_fields json;
+  value = (user_in json, edited_kind_in json, rule_id_in json);
+}
 
 -- the actions that a rule is to have
 abbrev pub actions_field : Json → FieldName × Bool
