@@ -31,7 +31,7 @@ use Rattle.mx_records.specs.Snapshot.{Notified, Snapshot, notified_by, snapshot_
 use Rattle.mx_records.proofs.HistoryLemmas.{next_event, room_after-next, snapshot_of-edit, snapshot_of-push}
 use Rattle.mx_records.proofs.PlacesLemmas.{position_of-places, with_place-new}
 use Rattle.mx_records.proofs.RulesLemmas.{rules_among-edited}
-use Rattle.mx_engine.specs.Planning.{Adds, Edits, Fits, IsPlannedFor, PlannedChange, PlannedEvent, Suits, with_change, with_edit, with_event}
+use Rattle.mx_engine.specs.Planning.{adds, edits, Fits, IsPlannedFor, PlannedChange, PlannedEvent, Suits, with_change, with_edit, with_event}
 
 -- what is known before any input
 pub snapshot-new : (server : List ℕ)
@@ -144,8 +144,8 @@ module _ (server : List ℕ) (h : History) (shown : Snapshot) (position : ℕ) (
   -- what is known after a change that an input leads to
   pub step-shown : (input : Input) (change : PlannedChange) → Fits server shown change → Suits server shown input change
       → with_change server shown position change ≡ snapshot_of server (with_input h input)
-  step-shown (Event event) (Adds plan) fits suits = step-event event plan fits suits
-  step-shown (EditInput user edit) (Edits editor plan) fits suits =
+  step-shown (Event event) (adds plan) fits suits = step-event event plan fits suits
+  step-shown (EditInput user edit) (edits editor plan) fits suits =
       (λ i. with_edit server shown position (suits.0 i) plan) ∙ step-edit user edit plan suits.1
-  step-shown (Event event) (Edits editor plan) fits suits = absurd suits
-  step-shown (EditInput user edit) (Adds plan) fits suits = absurd suits
+  step-shown (Event event) (edits editor plan) fits suits = absurd suits
+  step-shown (EditInput user edit) (adds plan) fits suits = absurd suits

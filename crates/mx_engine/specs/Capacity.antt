@@ -3,7 +3,7 @@ use Rattle.std.specs.Prelude.{◌≡◌, ◌<◌, ℕ, true, List}
 use Rattle.std.specs.Cmp.Lexicographic.{slice_cmp}
 use Rattle.std.specs.FinSet as set
 use Rattle.std.specs.Ordering.{nat_cmp}
-use Rattle.mx_engine.specs.Planning.{PlannedChange, PlannedEvent, Adds, Edits}
+use Rattle.mx_engine.specs.Planning.{PlannedChange, PlannedEvent, adds, edits}
 
 -- For what the memory of an engine suffices.
 pub record Capacity : Type 0 where
@@ -25,5 +25,5 @@ HasCapacityFor capacity plan = SufficesFor capacity plan.id plan.room.id
 
 -- the memory suffices for a change
 abbrev pub HasCapacity : Capacity → PlannedChange → Type 0
-HasCapacity capacity (Adds plan) = HasCapacityFor capacity plan
-HasCapacity capacity (Edits editor plan) = set.contains capacity.rules editor ≡ true
+HasCapacity capacity (adds plan) = HasCapacityFor capacity plan
+HasCapacity capacity (edits editor plan) = set.contains capacity.rules editor ≡ true

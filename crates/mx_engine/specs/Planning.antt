@@ -30,8 +30,8 @@ pub record PlannedEvent : Type 0 where
 
 -- What a plan changes: it adds an event, or edits the rules of a user.
 pub data PlannedChange : Type 0 where
-  pub Adds : PlannedEvent → PlannedChange
-  pub Edits : List ℕ → EditPlan → PlannedChange
+  adds : PlannedEvent → PlannedChange
+  edits : List ℕ → EditPlan → PlannedChange
 
 -- A plan is a change, and the position that its input will take.
 pub record Planned : Type 0 where
@@ -51,19 +51,19 @@ pub record IsPlannedFor (server : List ℕ) (shown : Snapshot) (event : Json) (p
 
 -- the change is what this input leads to in this state
 abbrev pub Suits : List ℕ → Snapshot → Input → PlannedChange → Type 0
-Suits server shown (Event event) (Adds plan) = IsPlannedFor server shown event plan
-Suits server shown (Edit user edit) (Edits editor plan) =
+Suits server shown (Event event) (adds plan) = IsPlannedFor server shown event plan
+Suits server shown (Edit user edit) (edits editor plan) =
     (editor ≡ user) × IsPlanOf edit (rules_among server shown.rules user) plan
-Suits server shown (Event event) (Edits editor plan) = ⊥
-Suits server shown (Edit user edit) (Adds plan) = ⊥
+Suits server shown (Event event) (edits editor plan) = ⊥
+Suits server shown (Edit user edit) (adds plan) = ⊥
 
 -- ---- for which state a plan is made
 
 -- the change can be made in this state: an event is new there, and an edit is planned for the
 -- user's rules
 abbrev pub Fits : List ℕ → Snapshot → PlannedChange → Type 0
-Fits server shown (Adds plan) = place_in shown.places plan.id ≡ None
-Fits server shown (Edits editor plan) = is_made_for (rules_among server shown.rules editor) plan ≡ true
+Fits server shown (adds plan) = place_in shown.places plan.id ≡ None
+Fits server shown (edits editor plan) = is_made_for (rules_among server shown.rules editor) plan ≡ true
 
 -- A plan is made for a state: its position is the next one of this snapshot, which an input may
 -- have, and its change can be made there.
@@ -85,8 +85,8 @@ event_planned plan = record {
 
 -- what a plan changes
 abbrev pub change_planned : Change → PlannedChange
-change_planned (change.Adds plan) = Adds (event_planned plan)
-change_planned (change.Edits editor plan) = Edits editor plan
+change_planned (change.Adds plan) = adds (event_planned plan)
+change_planned (change.Edits editor plan) = edits editor plan
 
 -- what will be kept of an event stands in its room, at this position
 pub record IsPlacedAt (position : ℕ) (plan : EventPlan) : Type 0 where
@@ -125,5 +125,5 @@ with_edit server shown position editor plan = record {
 
 -- what is known after a change at this position
 abbrev pub with_change : List ℕ → Snapshot → ℕ → PlannedChange → Snapshot
-with_change server shown position (Adds plan) = with_event shown position plan
-with_change server shown position (Edits editor plan) = with_edit server shown position editor plan
+with_change server shown position (adds plan) = with_event shown position plan
+with_change server shown position (edits editor plan) = with_edit server shown position editor plan
