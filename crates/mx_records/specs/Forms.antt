@@ -138,8 +138,9 @@ abbrev pub put_form : Json → Form Input
 put_form json = record {
   fields = put_fields json;
   value = Edit (user_in json)
-      (Put (edited_kind_in json) (rule_id_in json) (text_at (codes "pattern") json) (given_list (codes "conditions") json)
-      (actions_in json) (text_at (codes "before") json) (text_at (codes "after") json));
+      (Put (edited_kind_in json) (rule_id_in json) (text_at (codes "pattern") json)
+      (given_list (codes "conditions") json) (actions_in json) (text_at (codes "before") json)
+      (text_at (codes "after") json));
 }
 
 -- `rule_delete`
