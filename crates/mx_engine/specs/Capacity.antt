@@ -14,9 +14,9 @@ pub record Capacity : Type 0 where
 
 -- the memory suffices for an event with this id in this room: for its place, for the room, and for
 -- those whom it notifies
-pub record SufficesFor (capacity : Capacity) (id room : List ℕ) : Type 0 where
-  pub room : set.contains capacity.rooms room ≡ true
-  pub place : set.contains capacity.places id ≡ true
+pub record SufficesFor (capacity : Capacity) (event_id room_id : List ℕ) : Type 0 where
+  pub room : set.contains capacity.rooms room_id ≡ true
+  pub place : set.contains capacity.places event_id ≡ true
   pub notified : 0 < capacity.notified
 
 -- the memory suffices for an event that is planned so

@@ -48,13 +48,12 @@ impl Model for Engine {
 
     ghost Value = { View };
 
-    ghost use Rattle.mx_rule.specs.contracts.ruleset.Ruleset as rules;
     ghost use Rattle.mx_json.specs.contracts.value.Json as json;
     ghost use Rattle.std.specs.Coded.{codes};
     ghost use Rattle.std.specs.FinMap as map;
     ghost use Rattle.std.specs.FinSet as set;
 
-    ghost coded = { Prim.hlevel (codes, map.code, set.code, json.the_row.coded, rules.the_row.coded) };
+    ghost coded = { Prim.hlevel (codes, map.code, set.code, json.the_row.coded) };
 
     ghost use Rattle.std.specs.Prelude.{◌≡◌, ◌-◌, ◌≤◌, ℕ, List, length, IfSome, vec_len, vec_capacity};
     ghost use Rattle.mx_records.specs.Refusing.{most_inputs};
