@@ -1,5 +1,6 @@
 -- What may come of preparing an input: ours.
-use Rattle.std.specs.Prelude.{◌≡◌, List, ℕ, Some, Result, Ok, Err}
+use Rattle.std.specs.Prelude.{◌≡◌, List, ℕ, Option, Some, None, Result, Ok, Err}
+use Rattle.mx_records.specs.declared.refusal.Refusal.{Refusal}
 use Rattle.mx_records.specs.declared.input.Input.{Input}
 use Rattle.mx_records.specs.History.{History}
 use Rattle.mx_records.specs.Refusing.{refusal_of, IsAcceptable, NamesAPosition}
@@ -15,7 +16,14 @@ IsPrepared server h input (Err (Refused refusal)) = refusal_of server h input �
 IsPrepared server h input (Err OutOfMemory) = Unit {0}
 
 -- a position that the refusal names is one that an input can have
-abbrev pub RefusesInRange : Result Planned PrepareError → Type 0
-RefusesInRange (Ok plan) = Unit {0}
+abbrev pub RefusesInRange : {A : Type 0} → Result A PrepareError → Type 0
+RefusesInRange (Ok value) = Unit {0}
 RefusesInRange (Err (Refused refusal)) = NamesAPosition refusal
 RefusesInRange (Err OutOfMemory) = Unit {0}
+
+-- an answer tells the refusal, and comes without an error only where there is none; for private
+-- clauses
+abbrev pub SaysOfContent : {A : Type 0} → Option Refusal → Result A PrepareError → Type 0
+SaysOfContent refusal (Ok value) = refusal ≡ None
+SaysOfContent refusal (Err (Refused told)) = refusal ≡ Some told
+SaysOfContent refusal (Err OutOfMemory) = Unit {0}

@@ -3,10 +3,10 @@ ghost use Rattle.std.specs.FinMap as map;
 ghost use Rattle.std.specs.FinSet as set;
 ghost use Rattle.mx_event.specs.Event.{room_id_of};
 ghost use Rattle.mx_records.specs.Judging.{notice_in, notices_in};
+ghost use Rattle.mx_records.specs.Rules.{rules_among};
 ghost use Rattle.mx_room.specs.Change.{sets_of, with_sets};
 ghost use Rattle.mx_room.specs.Rooms.{room_at};
 ghost use Rattle.mx_room.specs.State.{named_by};
-ghost use Rattle.mx_rule.specs.Predefined.{predefined_rules};
 ghost use Rattle.mx_engine.specs.Noticing.{beside, IsListed, said_of};
 
 use crate::rules::UserRules;
@@ -25,11 +25,11 @@ pub(crate) fn notified_users(
     rules: &UserRules,
     scratch: &mut Scratch,
 ) -> Result<Vec<(UserId, bool)>, OutOfMemory>
-    requires server { rules.now ≡ rooms.now.server }
+    requires server { rules.now.server ≡ rooms.now.server }
     requires capacity { set.contains rooms.now.capacity plan.now.id ≡ true }
     requires plan { plan.now ≡ record { id = room_id_of event.now; sets = sets_of event.now } }
     ensures { IfOk result (λ users. map.from_entries users.items
-        ≡ notices_in rules.now (predefined_rules rules.now)
+        ≡ notices_in rules.now.server (rules_among rules.now.server rules.now.edited)
         (with_sets (sets_of event.now) (room_at rooms.now.states (room_id_of event.now))) event.now) }
 {
     let view = rooms.view(plan);
@@ -47,9 +47,9 @@ fn notified_in(
     rules: &UserRules,
     scratch: &mut Scratch,
 ) -> Result<Vec<(UserId, bool)>, OutOfMemory>
-    requires { IsListed rules.now event.now view.now members.now }
+    requires { IsListed rules.now.server event.now view.now members.now }
     ensures { IfOk result (λ users. map.from_entries users.items
-        ≡ notices_in rules.now (predefined_rules rules.now) view.now event.now) }
+        ≡ notices_in rules.now.server (rules_among rules.now.server rules.now.edited) view.now event.now) }
 {
     let mut users = notified_among(alloc, event, view, members, rules, scratch)?;
     if let Some(named) = named_beside(alloc, event, members)? {
@@ -68,7 +68,7 @@ fn notified_among(
     scratch: &mut Scratch,
 ) -> Result<Vec<(UserId, bool)>, OutOfMemory>
     ensures { IfOk result (λ users. users.items
-        ≡ said_of (notice_in rules.now (predefined_rules rules.now) view.now event.now) members.now) }
+        ≡ said_of (notice_in rules.now.server (rules_among rules.now.server rules.now.edited) view.now event.now) members.now) }
 {
     let mut users = Vec::new(alloc);
     for user in members {
@@ -88,7 +88,7 @@ fn note(
     users: &mut Vec<(UserId, bool)>,
 ) -> Result<(), OutOfMemory>
     ensures { OnOk result (users.new.items ≡ users.old.items
-        ++ said_of (notice_in rules.now (predefined_rules rules.now) view.now event.now)
+        ++ said_of (notice_in rules.now.server (rules_among rules.now.server rules.now.edited) view.now event.now)
         (user.now ∷ [])) }
 {
     let Some(verdict) = rules.verdict(alloc, event, user, view, scratch)? else {

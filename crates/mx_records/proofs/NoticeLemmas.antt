@@ -170,4 +170,5 @@ module _ (server user room : List ℕ) where
       count-alike (notified_by server) (is_highlighted_in room user)
       (λ x. is_unread server user room x && highlights server user x) is_highlighted-unread (events h)
       ∙ sym (count_by-filter (is_unread server user room) (highlights server user) (events h)) in
-      ap (λ (s : Snapshot). counts_among s.notified user room) is ∙ (λ i. record { notify = notify i; highlight = highlight i })
+      ap (λ (s : Snapshot). counts_among s.notified user room) is
+      ∙ (λ i. record { notify = notify i; highlight = highlight i })

@@ -1,12 +1,12 @@
 //! The inputs that edit a user's push rules, read from the object of their command.
 
-ghost use Rattle.std.specs.Prelude.{◌≡◌, true, codes, is_some, IfOk};
+ghost use Rattle.std.specs.Prelude.{◌≡◌, true, IfOk};
 ghost use Rattle.std.specs.List.{list_all};
 ghost use Rattle.mx_json.specs.Gives.{Gives};
 ghost use Rattle.mx_json.specs.Ids.{is_user_id};
-ghost use Rattle.mx_json.specs.Json.{is_valid, list_at, text_at};
+ghost use Rattle.mx_json.specs.Json.{is_valid, text_at};
 ghost use Rattle.mx_rule.specs.Editing.{given_items};
-ghost use Rattle.mx_records.specs.Forms.{actions_in, checked, given_list, has_list_or_none, has_text_or_none};
+ghost use Rattle.mx_records.specs.Forms.{actions_field, actions_in, anchors_form, checked, given_list, has_list_or_none, has_text_or_none};
 ghost use Rattle.mx_records.specs.Forms.{is_rule_id, kind_in, kind_named, rule_id_in, user_in, value_of_form};
 ghost use Rattle.mx_records.specs.Forms.{delete_form, enable_form, put_form, rule_form, set_actions_form};
 ghost use Rattle.mx_records.specs.Rules.{is_valid_input};
@@ -32,8 +32,7 @@ pub(crate) fn read_put(alloc: Global, json: &Json) -> Result<Input, InputError>
     let actions = read_actions(alloc, json)?;
     let conditions = list_or_none(alloc, json, "conditions", FieldName::Conditions)?;
     let pattern = text_or_none(alloc, json, "pattern", FieldName::Pattern)?;
-    let before = text_or_none(alloc, json, "before", FieldName::Before)?;
-    let after = text_or_none(alloc, json, "after", FieldName::After)?;
+    let (before, after) = read_anchors(alloc, json)?;
     Ok(Input::Edit {
         user,
         edit: Edit::Put {
@@ -176,13 +175,27 @@ fn is_rule_id(text: &str) -> bool
 fn read_actions(alloc: Global, json: &Json) -> Result<JsonList, InputError>
     requires { is_valid json.now ≡ true }
     ensures actions { Gives InputError.OutOfMemory result
-        (checked FieldName.Actions (is_some (list_at (codes "actions") json.now)) (actions_in json.now)) }
+        (checked FieldName.Actions (actions_field json.now).1 (actions_in json.now)) }
     ensures valid { IfOk result (λ actions. list_all is_valid actions.items ≡ true) }
 {
     let Some(actions) = json.list_at("actions") else {
         return Err(InputError::BadField(FieldName::Actions));
     };
     Ok(actions.copied(alloc)?)
+}
+
+/// The rules beside which the rule is to stand: `before` and `after`.
+fn read_anchors(
+    alloc: Global,
+    json: &Json,
+) -> Result<(Option<JsonText>, Option<JsonText>), InputError>
+    requires { is_valid json.now ≡ true }
+    ensures { Gives InputError.OutOfMemory result
+        (value_of_form InputError.BadField (anchors_form json.now)) }
+{
+    let before = text_or_none(alloc, json, "before", FieldName::Before)?;
+    let after = text_or_none(alloc, json, "after", FieldName::After)?;
+    Ok((before, after))
 }
 
 /// The list under a key, if anything stands there.

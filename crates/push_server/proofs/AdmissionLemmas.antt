@@ -1,14 +1,12 @@
 -- Lemmas on the admission of a line and its answer.
 use Rattle.std.proofs.Common.{◌≡◌, ℕ, ◌<◌, ◌≤◌, Bool, true, false, cond, List, ◌++◌, Result, Ok, Err, Option, None, Some, is_some, Bor, OnOk, length, nat_lt, refl, ap, sym, ◌∙◌, subst, arith}
-use Rattle.std.specs.Option.{option_copied}
 use Rattle.std.proofs.lemmas.Bool.Decides.{nat_tests}
-use Rattle.mx_json.specs.Ids.{localpart_of}
 use Rattle.mx_records.specs.History.{History}
 use Rattle.mx_records.specs.Refusing.{is_local}
 use Rattle.mx_records.specs.declared.refusal.Refusal.TheVariants.{NotLocal}
 use Rattle.mx_records.specs.Snapshot.{Snapshot, snapshot_of}
 use Rattle.mx_lines.specs.declared.command.Command.{Command}
-use Rattle.mx_lines.specs.declared.command.Command.TheVariants.{Counts as CountsCommand}
+use Rattle.mx_lines.specs.declared.command.Command.TheVariants.{Input as InputCommand, Counts, Rules}
 use Rattle.mx_lines.specs.declared.command.LineRefusal.{LineRefusal}
 use Rattle.mx_lines.specs.declared.cut.Cut.TheVariants.{TooLong as LongCut}
 use Rattle.mx_lines.specs.declared.command.Denial.{Denial}
@@ -17,36 +15,52 @@ use Rattle.mx_lines.specs.Commands.{command_of}
 use Rattle.mx_lines.specs.Cutting.{longest_line}
 use Rattle.mx_lines.specs.Lines.{with_feed}
 use Rattle.mx_lines.specs.Replies.{denied_value, reply_text}
-use Rattle.mx_lines.specs.Admission.{Admission, admission_of, admission_by, unless_refused, after_admission, reply_to, reply_by, reply, after}
-use Rattle.push_server.specs.Answered.{IsAnswered}
+use Rattle.mx_lines.specs.Admission.{Admission, admission_of, admission_by, unless_refused, after_admission, reply_to, reply_by, reply, after, IsQuestion}
+use Rattle.push_server.specs.Answered.{asked_user, IsAnswered}
 use Rattle.push_server.specs.Steps.{AnswersCut}
 
-is_some-copied : (found : Option (Bor (List ℕ))) → is_some (option_copied found) ≡ is_some found
-is_some-copied None = refl
-is_some-copied (Some part) = refl
+-- ---- questions
 
--- a user is local where the look for the localpart found one
-pub is_local-found : (server name user : List ℕ) (found : Option (Bor (List ℕ))) (is : Bool) → name ≡ server
-    → option_copied found ≡ localpart_of name user → is_some found ≡ is → is_local server user ≡ is
-is_local-found server name user found is same copied test =
-    ap (λ own. is_some (localpart_of own user)) (sym same) ∙ (ap is_some (sym copied) ∙ (is_some-copied found ∙ test))
+located : {A : Type 0} (a b : A) → Some a ≡ Some b → a ≡ b
+located a b is = cc
 
-admission_by-counts : (server : List ℕ) (h : History) (user room : List ℕ) (threads is : Bool) → is_local server user ≡ is
-    → admission_by server h (Ok (CountsCommand user room threads)) ≡ unless_refused (CountsCommand user room threads) (cond is None (Some NotLocal))
-admission_by-counts server h user room threads is test =
-    ap (λ (b : Bool). unless_refused (CountsCommand user room threads) (cond b None (Some NotLocal))) test
+-- a question is followed where its user is local, and refused else
+admission_by-question : (server : List ℕ) (h : History) (command : Command) (user : List ℕ) (is : Bool)
+    → asked_user command ≡ Some user → is_local server user ≡ is
+    → admission_by server h (Ok command) ≡ unless_refused command (cond is None (Some NotLocal))
+admission_by-question server h (InputCommand input) user is about test = absurd cc
+admission_by-question server h (Counts of room threads) user is about test =
+    ap (λ (b : Bool). unless_refused (Counts of room threads) (cond b None (Some NotLocal)))
+    (ap (is_local server) (located of user about) ∙ test)
+admission_by-question server h (Rules of) user is about test =
+    ap (λ (b : Bool). unless_refused (Rules of) (cond b None (Some NotLocal)))
+    (ap (is_local server) (located of user about) ∙ test)
 
--- a question for a user who isn't local is refused
-pub admission_by-remote : (server : List ℕ) (h : History) (command : Command) (user room : List ℕ) (threads : Bool) → command ≡ CountsCommand user room threads
-    → is_local server user ≡ false → admission_by server h (Ok command) ≡ Err (Input NotLocal)
-admission_by-remote server h command user room threads is remote =
-    ap (λ c. admission_by server h (Ok c)) is ∙ admission_by-counts server h user room threads false remote
+-- a question about a user who isn't local is refused
+pub admission_by-remote : (server : List ℕ) (h : History) (command : Command) (user : List ℕ)
+    → asked_user command ≡ Some user → is_local server user ≡ false
+    → admission_by server h (Ok command) ≡ Err (Input NotLocal)
+admission_by-remote server h command user about remote = admission_by-question server h command user false about remote
 
--- and one for a local user is followed
-pub admission_by-local : (server : List ℕ) (h : History) (command : Command) (user room : List ℕ) (threads : Bool) → command ≡ CountsCommand user room threads
-    → is_local server user ≡ true → admission_by server h (Ok command) ≡ Ok command
-admission_by-local server h command user room threads is local =
-    ap (λ c. admission_by server h (Ok c)) is ∙ (admission_by-counts server h user room threads true local ∙ ap (λ c. Ok c) (sym is))
+-- and one about a local user is followed
+pub admission_by-local : (server : List ℕ) (h : History) (command : Command) (user : List ℕ)
+    → asked_user command ≡ Some user → is_local server user ≡ true
+    → admission_by server h (Ok command) ≡ Ok command
+admission_by-local server h command user about local = admission_by-question server h command user true about local
+
+-- a question of a local user is one that the server answers
+pub is_question : (server : List ℕ) (command : Command) (user : List ℕ)
+    → asked_user command ≡ Some user → is_local server user ≡ true → IsQuestion server command
+is_question server (InputCommand input) user about local = absurd cc
+is_question server (Counts of room threads) user about local = ap (is_local server) (located of user about) ∙ local
+is_question server (Rules of) user about local = ap (is_local server) (located of user about) ∙ local
+
+-- a question changes nothing
+after-question : (h : History) (command : Command) (user : List ℕ) → asked_user command ≡ Some user
+    → after_admission h (Ok command) ≡ h
+after-question h (InputCommand input) user about = absurd cc
+after-question h (Counts of room threads) user about = refl
+after-question h (Rules of) user about = refl
 
 by_test : {A : Type 0} (t u : Bool) (x y : A) → t ≡ u → cond t x y ≡ cond u x y
 by_test t u x y same = ap (λ (b : Bool). cond b x y) same
@@ -79,12 +93,14 @@ answered_denied (Ok value) server h denial shown before now stands text = record
 answered_denied (Err error) server h denial shown before now stands text = tt
 
 -- an answer to a question changes nothing
-pub answered_question : {T E : Type 0} (result : Result T E) (server : List ℕ) (h : History) (command : Command) (user room : List ℕ) (threads : Bool)
-    (shown : Snapshot) (before now : List ℕ) → command ≡ CountsCommand user room threads → shown ≡ snapshot_of server h
-    → OnOk result (now ≡ before ++ with_feed (reply_text (reply_to server h command))) → OnOk result (IsAnswered server h (Ok command) shown before now)
-answered_question (Ok value) server h command user room threads shown before now is stands text =
-    record { text = text; history = stands ∙ ap (λ c. snapshot_of server (after_admission h (Ok c))) (sym is) }
-answered_question (Err error) server h command user room threads shown before now is stands text = tt
+pub answered_question : {T E : Type 0} (result : Result T E) (server : List ℕ) (h : History) (command : Command)
+    (user : List ℕ) (shown : Snapshot) (before now : List ℕ)
+    → asked_user command ≡ Some user → shown ≡ snapshot_of server h
+    → OnOk result (now ≡ before ++ with_feed (reply_text (reply_to server h command)))
+    → OnOk result (IsAnswered server h (Ok command) shown before now)
+answered_question (Ok value) server h command user shown before now about stands text =
+    record { text = text; history = stands ∙ ap (snapshot_of server) (sym (after-question h command user about)) }
+answered_question (Err error) server h command user shown before now about stands text = tt
 
 -- what was done about a line, in the words of the history
 pub reply-answered : (server line : List ℕ) (h : History) (shown : Snapshot) (before now : List ℕ)

@@ -1,13 +1,15 @@
-ghost use Rattle.std.specs.Prelude.{◌≡◌, ◌≤◌, length, Ok, OnOk};
+ghost use Rattle.std.specs.Prelude.{◌≡◌, ◌≤◌, length, true, Ok, OnOk, Some};
 ghost use Rattle.mx_records.specs.History.{History};
+ghost use Rattle.mx_records.specs.Rules.{is_valid_input};
 ghost use Rattle.mx_records.specs.Snapshot.{snapshot_of};
 ghost use Rattle.mx_lines.specs.Cutting.{longest_line, IsShort};
 ghost use Rattle.mx_lines.specs.Admission.{admission_of, admission_by};
-ghost use Rattle.push_server.specs.Answered.{IsAnswered};
+ghost use Rattle.mx_lines.specs.Commands.{is_valid_command};
+ghost use Rattle.push_server.specs.Answered.{asked_user, IsAnswered};
 ghost use Rattle.push_server.specs.Steps.{AnswersCut};
 
 use mx_engine::{Engine, PrepareError};
-use mx_json::OutOfMemory;
+use mx_json::{OutOfMemory, UserId};
 use mx_lines::{Command, Cut, Denial, LineError, denied_into, ok_into, read, reply_into};
 use mx_records::{Input, Refusal};
 use std::alloc::Global;
@@ -60,6 +62,7 @@ fn follow(
     command: &Command,
     out: &mut Vec<u8>,
 ) -> Result<(), OutOfMemory>
+    requires { is_valid_command command.now ≡ true }
     ensures server { engine.new.server ≡ engine.old.server }
     ensures answered { (h : History) → engine.old.shown ≡ snapshot_of engine.old.server h
         → OnOk result (IsAnswered engine.old.server h
@@ -68,14 +71,31 @@ fn follow(
 {
     match command {
         Command::Input(input) => accept(alloc, engine, input, out),
-        Command::Counts { user, .. } => {
-            if user.localpart_on(engine.server()).is_none() {
-                denied_into(alloc, &Denial::Input(Refusal::NotLocal), out)
-            } else {
-                reply_into(alloc, &*engine, command, out)
-            }
+        Command::Counts { user, .. } | Command::Rules { user } => {
+            reply_about(alloc, &*engine, user, command, out)
         }
     }
+}
+
+/// Appends the reply to a question about a user, or refuses it where the user isn't local.
+fn reply_about(
+    alloc: Global,
+    engine: &Engine,
+    user: &UserId,
+    command: &Command,
+    out: &mut Vec<u8>,
+) -> Result<(), OutOfMemory>
+    requires { asked_user command.now ≡ Some user.now }
+    ensures { (h : History) → engine.now.shown ≡ snapshot_of engine.now.server h
+        → OnOk result (IsAnswered engine.now.server h
+        (admission_by engine.now.server h (Ok command.now))
+        engine.now.shown out.old.items out.new.items) }
+{
+    let server = engine.server();
+    if !user.is_local(server) {
+        return denied_into(alloc, &Denial::Input(Refusal::NotLocal), out);
+    }
+    reply_into(alloc, engine, server, command, out)
 }
 
 /// Accepts an input, or refuses it, and appends the reply.
@@ -85,6 +105,7 @@ fn accept(
     input: &Input,
     out: &mut Vec<u8>,
 ) -> Result<(), OutOfMemory>
+    requires { is_valid_input input.now ≡ true }
     ensures server { engine.new.server ≡ engine.old.server }
     ensures answered { (h : History) → engine.old.shown ≡ snapshot_of engine.old.server h
         → OnOk result (IsAnswered engine.old.server h

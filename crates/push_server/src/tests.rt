@@ -1,4 +1,7 @@
+mod edited;
+mod edits;
 mod fixtures;
+mod full;
 mod refusals;
 mod rooms;
 mod serving;

@@ -57,14 +57,9 @@ static WRONG_FIELDS: [(&str, &str); 13] = [
 ];
 
 /// Commands that aren't built, whatever else they say.
-static NOT_BUILT: [&str; 12] = [
-    r#"{"cmd":"rule_put","user":1}"#,
-    r#"{"cmd":"rule_delete"}"#,
-    r#"{"cmd":"rule_enable"}"#,
-    r#"{"cmd":"rule_actions"}"#,
+static NOT_BUILT: [&str; 7] = [
     r#"{"cmd":"receipt","event_id":"$known"}"#,
     r#"{"cmd":"pusher"}"#,
-    r#"{"cmd":"rules","user":"@z:other.org"}"#,
     r#"{"cmd":"pushers"}"#,
     r#"{"cmd":"turn","units":0}"#,
     r#"{"cmd":"stat"}"#,

@@ -1,6 +1,6 @@
 use Rattle.std.proofs.Common.{[], ◌∷◌, ◌++◌, Some, None, sym, ap, ◌∙◌}
 use Rattle.mx_records.specs.Judging.{notice_in}
-use Rattle.mx_rule.specs.Predefined.{predefined_rules}
+use Rattle.mx_records.specs.Rules.{rules_among}
 use Rattle.mx_engine.specs.Noticing.{said_of}
 use Rattle.mx_engine.proofs.NoticingLemmas.{notices-walked, said-walked}
 use Rattle.mx_engine.proofs.judging.notified_in.Goals as goal
@@ -8,9 +8,9 @@ use Rattle.mx_engine.proofs.judging.notified_in.Goals.{in-Some+in_ok-note, in_de
 
 pub returns : goal.returns
 returns c =
-    let rules = predefined_rules c.args.rules.now in
-    let said = notice_in c.args.rules.now rules c.args.view.now c.args.event.now in
-    let all = notices-walked c.args.rules.now rules c.args.event.now c.args.view.now c.args.members.now in
+    let rules = rules_among c.args.rules.now.server c.args.rules.now.edited in
+    let said = notice_in c.args.rules.now.server rules c.args.view.now c.args.event.now in
+    let all = notices-walked c.args.rules.now.server rules c.args.event.now c.args.view.now c.args.members.now in
     elim c.match-branch-3.branch [
       | in-Some+in_ok-note w ↦
           all (Some w.in-Some.named) c.match-branch-3.users.items c.requires (sym w.in-Some.is ∙ c.in_ok-named.ensures)

@@ -5,7 +5,7 @@ use Rattle.push_server.proofs.answer.answer_line.Goals as goal
 pub returns-in-Ok-clause-answered : goal.returns-in-Ok-clause-answered
 returns-in-Ok-clause-answered c h is =
     let server = c.args.engine.now.server in
-    answered_as _ server h _ _ _ _ _ (admission_of-read server h c.args.line.now _ c.requires c.in-Ok.ensures) (c.follow.ensures.answered h is)
+    answered_as _ server h _ _ _ _ _ (admission_of-read server h c.args.line.now _ c.requires c.in-Ok.ensures.command) (c.follow.ensures.answered h is)
 
 pub returns-in-Err-Refused-clause-answered : goal.returns-in-Err-Refused-clause-answered
 returns-in-Err-Refused-clause-answered c h is =

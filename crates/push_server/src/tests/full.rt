@@ -1,0 +1,42 @@
+//! The millionth input, over the engine: edits of one rule, which keep nothing of what they were.
+
+ghost use Rattle.std.specs.Prelude.{◌≡◌, true};
+ghost use Rattle.mx_records.specs.Rules.{is_valid_input};
+
+use mx_engine::{Engine, PrepareError, Refusal};
+use mx_lines::{Command, read};
+use mx_records::Input;
+use std::alloc::Global;
+use std::process::Abort;
+
+#[test]
+fn the_millionth_input_is_the_last(rt: HostRuntime) {
+    assert!(rt; is_full_at(&rt, rt.alloc(), 1_000_000));
+}
+
+/// Whether an engine accepts one input so often, and then refuses it because its history is full.
+fn is_full_at(rt: &impl Abort, alloc: Global, times: u64) -> bool {
+    let line = br#"{"cmd":"rule_enable","enabled":true,"kind":"override","rule_id":".m.rule.master","user":"@b:example.org"}"#;
+    let Ok(Command::Input(input)) = read(alloc, line) else {
+        return false;
+    };
+    let mut engine = Engine::new(alloc, "example.org").expect(rt, "an engine");
+    for _ in 0..times {
+        if !is_accepted(alloc, &mut engine, &input) {
+            return false;
+        }
+    }
+    engine.prepare(alloc, &input).err() == Some(PrepareError::Refused(Refusal::Full))
+}
+
+fn is_accepted(alloc: Global, engine: &mut Engine, input: &Input) -> bool
+    requires { is_valid_input input.now ≡ true }
+{
+    match engine.prepare(alloc, input) {
+        Ok(plan) => {
+            engine.apply(plan);
+            true
+        }
+        Err(_) => false,
+    }
+}
