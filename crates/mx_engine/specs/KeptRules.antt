@@ -1,4 +1,4 @@
--- What contracts see of the rules that an engine keeps: ours.
+-- What is kept of users' push rules, and what it shows: for private clauses, ours.
 use Rattle.std.specs.Prelude.{◌≡◌, ℕ, true, false, if◌then◌else◌, List, Option, Some, None, option_map, IfSome}
 use Rattle.std.specs.Cmp.Lexicographic.{slice_cmp}
 use Rattle.std.specs.FinMap.{from_entries}
@@ -19,7 +19,7 @@ pub record RulesView : Type 0 where
   pub edited : Texts PushRuleset
   pub capacity : set.FinSet (slice_cmp nat_cmp)
 
--- ---- what is kept, and what it shows; for private clauses
+-- ---- what is kept
 
 -- the rules that are kept, by their users
 abbrev pub RulesByUser : Type 0

@@ -1,9 +1,7 @@
-ghost use Rattle.std.specs.Prelude.{◌≡◌, ℕ, List, true, false, is_some, unwrap_or, IfOk, MatchResult, OnOk};
+ghost use Rattle.std.specs.Prelude.{◌≡◌, ℕ, List, true, unwrap_or, IfOk, MatchResult, OnOk};
 ghost use Rattle.std.specs.FinMap.{empty, get, insert};
 ghost use Rattle.std.specs.FinSet as set;
-ghost use Rattle.std.specs.Map.{lookup};
 ghost use Rattle.std.specs.Option.{option_copied};
-ghost use Rattle.std.specs.Str.{bytes_eq};
 ghost use Rattle.mx_edit.specs.Planning.{is_made_for, planned, IsPlanOf, Tells};
 ghost use Rattle.mx_engine.specs.KeptRules.{shown_rules, users_in, AreKept, KeepsRules};
 ghost use Rattle.mx_records.specs.Judging.{verdict_in};
