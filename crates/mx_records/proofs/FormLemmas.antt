@@ -1,7 +1,9 @@
 -- What the form of an event gives, by the first wrong field of the event, and what an input is by the form of its word.
-use Rattle.std.proofs.Common.{◌≡◌, ◌⊎◌, inl, inr, Bool, true, false, cond, List, [], ◌∷◌, map, Option, None, Some, option_map, Result, Ok, Err, refl, ap, ◌∙◌, subst}
-use Rattle.std.specs.Option.{option_map_or}
+use Rattle.std.proofs.Common.{◌≡◌, ◌⊎◌, inl, inr, Bool, true, false, cond, List, [], ◌∷◌, ◌++◌, map, Option, None, Some, option_map, Result, Ok, Err, refl, ap, sym, ◌∙◌, subst}
+use Rattle.std.specs.Option.{option_map_or, option_or}
 use Rattle.std.specs.Prelude.{option_and_then}
+use Rattle.std.specs.Result.{IsErr, IsErrAnd}
+use Rattle.mx_json.specs.Gives.{Gives}
 use Rattle.mx_json.specs.declared.value.Json.{Json}
 use Rattle.mx_event.specs.declared.error.EventError.{EventError}
 use Rattle.mx_event.specs.declared.error.EventError.TheVariants.{BadEvent, OutOfMemory}
@@ -12,7 +14,7 @@ use Rattle.mx_records.specs.declared.field_name.FieldName.TheVariants.{Cmd}
 use Rattle.mx_records.specs.declared.input.Input.{Input}
 use Rattle.mx_records.specs.declared.input.Input.TheVariants.{Event}
 use Rattle.mx_records.specs.declared.input_error.InputError.{InputError}
-use Rattle.mx_records.specs.declared.input_error.InputError.TheVariants.{BadField}
+use Rattle.mx_records.specs.declared.input_error.InputError.TheVariants.{BadField, OutOfMemory as WantOfMemory}
 use Rattle.mx_records.specs.declared.input_word.InputWord.{InputWord}
 use Rattle.mx_records.specs.InputWords.{input_word_in}
 use Rattle.mx_records.specs.Forms.{Form, event_in, name_in_event, event_form, input_form_of, input_in, value_of_form}
@@ -69,6 +71,79 @@ value-wrong json taken error field same at (inl is) =
     let told : read_event (event_in json) ≡ Err (BadEvent field) =
     subst (λ of. read_event of ≡ Err (BadEvent field)) same (is ∙ ap (λ e. Err e) at) in
     value-event json ∙ wrong_at (first_wrong_field (event_in json)) (event_in json) field told
+
+-- ---- a form, read field by field
+
+-- what fields and a value give
+abbrev pub given : {A : Type 0} → List (FieldName × Bool) → A → Result A InputError
+given fields value = value_of_form BadField (record { fields = fields; value = value })
+
+-- the refusal is the one that is wanted, or memory was wanting
+abbrev pub IsRefused : {A : Type 0} → Result A InputError → InputError → Type 0
+IsRefused wanted error = (wanted ≡ Err error) ⊎ (error ≡ WantOfMemory)
+
+-- no field is wrong
+abbrev pub AreRight : List (FieldName × Bool) → Type 0
+AreRight fields = first_wrong fields ≡ None
+
+or_next : {A : Type 0} (right : Bool) (field : A) (xs ys : Option A)
+    → cond right (option_or xs ys) (Some field) ≡ option_or (cond right xs (Some field)) ys
+or_next true field xs ys = refl
+or_next false field xs ys = refl
+
+first_wrong-append : {A : Type 0} (xs ys : List (A × Bool))
+    → first_wrong (xs ++ ys) ≡ option_or (first_wrong xs) (first_wrong ys)
+first_wrong-append [] ys = refl
+first_wrong-append (x ∷ xs) ys =
+    ap (λ wrong. cond x.1 wrong (Some x.0)) (first_wrong-append xs ys)
+    ∙ or_next x.1 x.0 (first_wrong xs) (first_wrong ys)
+
+right_by : {A : Type 0} (wrong : Option FieldName) (value found : A)
+    → option_map_or (λ field. Err (BadField field)) wrong (Ok value) ≡ Ok found → (wrong ≡ None) × (value ≡ found)
+right_by None value found is = (refl, cc)
+right_by (Some field) value found is = absurd cc
+
+-- fields of which something is found are right, and it is their value
+pub found-right : {A : Type 0} (xs : List (FieldName × Bool)) (value found : A) → given xs value ≡ Ok found
+    → AreRight xs × (value ≡ found)
+found-right xs value found is = right_by (first_wrong xs) value found is
+
+pub right-both : (xs ys : List (FieldName × Bool)) → AreRight xs → AreRight ys → AreRight (xs ++ ys)
+right-both xs ys first then =
+    first_wrong-append xs ys ∙ ap (λ wrong. option_or wrong (first_wrong ys)) first ∙ then
+
+-- fields that are right have their value
+pub given-right : {A : Type 0} (xs : List (FieldName × Bool)) (value : A) → AreRight xs → given xs value ≡ Ok value
+given-right xs value are_right =
+    ap (λ wrong. option_map_or (λ field. Err (BadField field)) wrong (Ok value)) are_right
+
+refused_by : {A B : Type 0} (wrong rest : Option FieldName) (value : A) (whole : B) (error : InputError)
+    → IsRefused (option_map_or (λ field. Err (BadField field)) wrong (Ok value)) error
+    → IsRefused (option_map_or (λ field. Err (BadField field)) (option_or wrong rest) (Ok whole)) error
+refused_by None rest value whole error (inl is) = absurd cc
+refused_by (Some field) rest value whole error (inl is) = inl cc
+refused_by wrong rest value whole error (inr memory) = inr memory
+
+-- fields that are refused are refused before those behind them
+pub refused-first : {A B : Type 0} (xs ys : List (FieldName × Bool)) (value : A) (whole : B) (error : InputError)
+    → IsRefused (given xs value) error → IsRefused (given (xs ++ ys) whole) error
+refused-first xs ys value whole error is =
+    subst (λ wrong. IsRefused (option_map_or (λ field. Err (BadField field)) wrong (Ok whole)) error)
+    (sym (first_wrong-append xs ys)) (refused_by (first_wrong xs) (first_wrong ys) value whole error is)
+
+-- and behind those that are right
+pub refused-next : {A B : Type 0} (xs ys zs : List (FieldName × Bool)) (value : A) (whole : B) (error : InputError)
+    → AreRight xs → IsRefused (given ys value) error → IsRefused (given (xs ++ (ys ++ zs)) whole) error
+refused-next xs ys zs value whole error are_right is =
+    subst (λ wrong. IsRefused (option_map_or (λ field. Err (BadField field)) wrong (Ok whole)) error)
+    (sym (first_wrong-append xs (ys ++ zs) ∙ ap (λ wrong. option_or wrong (first_wrong (ys ++ zs))) are_right))
+    (refused-first ys zs value whole error is)
+
+-- a refusal that is handed up
+pub gives-refused : {A : Type 0} (result wanted : Result A InputError) (error : InputError)
+    → IsErr result × IsErrAnd result (λ e. e ≡ error) → IsRefused wanted error → Gives WantOfMemory result wanted
+gives-refused (Ok value) wanted error handed is = absurd handed.1
+gives-refused (Err e) wanted error handed is = subst (λ e. IsRefused wanted e) (sym handed.1) is
 
 -- what the form of a word gives, or the refusal of `cmd`
 abbrev by_form : Option (Form Input) → Result Input InputError

@@ -1,3 +1,5 @@
 pub mod FormLemmas
 pub mod HistoryLemmas
 pub mod NoticeLemmas
+pub mod PlacesLemmas
+pub mod RulesLemmas

@@ -25,8 +25,9 @@ use Rattle.mx_rule.specs.Judged.{invites, is_judged, judged, verdict_by}
 use Rattle.mx_rule.specs.Ruleset.{PushRuleset, flat}
 use Rattle.mx_records.specs.Counting.{counts_of, is_in, is_unread, unread}
 use Rattle.mx_records.specs.History.{History, Happening, events}
-use Rattle.mx_records.specs.Judging.{highlights, notice_in, notice_of, notices_in, notifies, rules_of, verdict_for, verdict_in}
+use Rattle.mx_records.specs.Judging.{highlights, notice_in, notice_of, notices_in, notifies, verdict_for, verdict_in}
 use Rattle.mx_records.specs.Rooms.{events_of, room_after}
+use Rattle.mx_records.specs.Rules.{rules_of}
 use Rattle.mx_records.specs.Snapshot.{Notified, Snapshot, counts_among, is_highlighted_in, is_notified_in, notified_by, snapshot_of}
 
 -- ---- who is notified is a member
@@ -169,4 +170,5 @@ module _ (server user room : List ℕ) where
       count-alike (notified_by server) (is_highlighted_in room user)
       (λ x. is_unread server user room x && highlights server user x) is_highlighted-unread (events h)
       ∙ sym (count_by-filter (is_unread server user room) (highlights server user) (events h)) in
-      ap (λ (s : Snapshot). counts_among s.notified user room) is ∙ (λ i. record { notify = notify i; highlight = highlight i })
+      ap (λ (s : Snapshot). counts_among s.notified user room) is
+      ∙ (λ i. record { notify = notify i; highlight = highlight i })

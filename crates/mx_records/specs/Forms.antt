@@ -33,6 +33,11 @@ abbrev pub value_of_form : {A E : Type 0} → (FieldName → E) → Form A → R
 value_of_form refusal form =
     option_map_or (λ field. Err (refusal field)) (first_wrong form.fields) (Ok form.value)
 
+-- the value of one field, or its refusal; for private clauses
+abbrev pub checked : {A : Type 0} → FieldName → Bool → A → Result A InputError
+checked field is_right value =
+    value_of_form BadField (record { fields = (field, is_right) ∷ []; value = value })
+
 -- ---- the forms of the inputs
 
 -- the value of `event`, and null where there is none
@@ -109,6 +114,13 @@ rule_fields json =
     (User, is_user_id (user_in json)) ∷ (KindField, is_some (kind_in json))
     ∷ (RuleId, is_rule_id (rule_id_in json)) ∷ []
 
+-- the rule that is edited: its user, its kind and its id
+abbrev pub rule_form : Json → Form (List ℕ × Kind × List ℕ)
+rule_form json = record {
+  fields = rule_fields json;
+  value = (user_in json, edited_kind_in json, rule_id_in json);
+}
+
 -- the actions that a rule is to have
 abbrev pub actions_field : Json → FieldName × Bool
 actions_field json = (Actions, is_some (list_at (codes "actions") json))
@@ -126,8 +138,9 @@ abbrev pub put_form : Json → Form Input
 put_form json = record {
   fields = put_fields json;
   value = Edit (user_in json)
-      (Put (edited_kind_in json) (rule_id_in json) (text_at (codes "pattern") json) (given_list (codes "conditions") json)
-      (actions_in json) (text_at (codes "before") json) (text_at (codes "after") json));
+      (Put (edited_kind_in json) (rule_id_in json) (text_at (codes "pattern") json)
+      (given_list (codes "conditions") json) (actions_in json) (text_at (codes "before") json)
+      (text_at (codes "after") json));
 }
 
 -- `rule_delete`

@@ -1,5 +1,5 @@
 -- A history, and each of its inputs and events together with what stood before it: ours.
-use Rattle.std.specs.Prelude.{ℕ, ◌+◌, List, [], ◌∷◌, ◌++◌, length, Option, Some}
+use Rattle.std.specs.Prelude.{ℕ, ◌+◌, List, [], ◌∷◌, ◌++◌, length, Option, Some, None}
 use Rattle.std.specs.List.{filter_map}
 use Rattle.mx_json.specs.declared.value.Json.{Json}
 use Rattle.mx_records.specs.declared.input.Input.{Input}

@@ -35,7 +35,7 @@ refusal_by edit.AnchorUnknown = AnchorUnknown
 refusal_by edit.RulesFull = RulesFull
 
 -- why a history refuses an input for what it says: an event whose id was accepted is known, at
--- its position; an edit is of a local user, and does what that user's rules allow
+-- the first position of its id; an edit is of a local user, and does what that user's rules allow
 abbrev pub refusal_of_content : List ℕ → History → Input → Option Refusal
 refusal_of_content server h (Event event) =
     option_map KnownEvent (position_of h (event_id_of event))

@@ -1,6 +1,7 @@
 ghost use Rattle.std.specs.Prelude.{◌≡◌};
 ghost use Rattle.mx_records.specs.FieldNames.{field_of_part, name_of};
 
+use mx_rule::Part;
 use std::fmt;
 
 /// A field of a command: `cmd`, and each name of the table of commands.

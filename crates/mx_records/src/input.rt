@@ -4,8 +4,8 @@ ghost use Rattle.mx_json.specs.Json.{is_valid};
 ghost use Rattle.mx_records.specs.Rules.{is_valid_input};
 ghost use Rattle.mx_records.specs.Forms.{event_in, name_in_event, event_form, input_in, value_of_form};
 
-use crate::{FieldName, InputError, InputWord};
 use crate::edit_form::{read_delete, read_enable, read_put, read_set_actions};
+use crate::{FieldName, InputError, InputWord};
 use mx_event::{Event, EventError, EventField};
 use mx_json::{Json, UserId};
 use mx_rule::Edit;
