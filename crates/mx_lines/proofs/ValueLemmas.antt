@@ -64,9 +64,10 @@ valid-refusal (KnownEvent position) names =
     (and_from _ _ (fit_number (codes "position") position refl (omega arith)) refl))
 valid-refusal RuleReserved names = valid-error (codes "RuleReserved") refl
 valid-refusal (BadRule part) names =
-    is_valid-Object (members_of ((codes "error", Text (codes "BadRule")) ∷ (codes "part", Text (name_of (field_of_part part))) ∷ [])) refl
+    let name = name_of (field_of_part part) in
+    is_valid-Object (members_of ((codes "error", Text (codes "BadRule")) ∷ (codes "part", Text name) ∷ [])) refl
     (and_from _ _ (fit_text (codes "error") (codes "BadRule") refl refl)
-    (and_from _ _ (fit_text (codes "part") (name_of (field_of_part part)) refl (valid-field (field_of_part part))) refl))
+    (and_from _ _ (fit_text (codes "part") name refl (valid-field (field_of_part part))) refl))
 valid-refusal RuleUnknown names = valid-error (codes "RuleUnknown") refl
 valid-refusal AnchorUnknown names = valid-error (codes "AnchorUnknown") refl
 valid-refusal RulesFull names =

@@ -11,7 +11,8 @@ use Rattle.mx_rule.specs.declared.criterion.Criterion.{Criterion}
 use Rattle.mx_rule.specs.declared.criterion.Criterion.TheVariants.{Conditions, Word, InRoom, FromSender}
 use Rattle.mx_rule.specs.Rule.{PushRule}
 use Rattle.mx_rule.specs.Ruleset.{PushRuleset}
-use Rattle.mx_rule.specs.Printed.{conditions_pair, conditions_text, rules_list, pattern_pair, pattern_text, printed, printed_rules, rule_object, separated}
+use Rattle.mx_rule.specs.Printed.{conditions_pair, conditions_text, pattern_pair, pattern_text, printed, separated}
+use Rattle.mx_rule.specs.Printed.{printed_rules, rule_object, rules_list}
 
 -- ---- the texts of a list, one after another
 
@@ -145,8 +146,10 @@ abbrev pub rules_text : List ℕ → List PushRule → List ℕ
 rules_text before rules = separated before (map rule_object rules)
 
 -- one more rule of a list
-pub rules-more : (out separator : List ℕ) (rules : List PushRule) (i : ℕ) (rule : PushRule) → i < length rules → rule ≡ get_or rules i rule
-    → ((out ++ separator) ++ printed rule) ++ rules_text (codes ",") (drop (i + 1) rules) ≡ out ++ rules_text separator (drop i rules)
+pub rules-more : (out separator : List ℕ) (rules : List PushRule) (i : ℕ) (rule : PushRule)
+    → i < length rules → rule ≡ get_or rules i rule
+    → ((out ++ separator) ++ printed rule) ++ rules_text (codes ",") (drop (i + 1) rules)
+    ≡ out ++ rules_text separator (drop i rules)
 unfolding printed
 rules-more out separator rules i rule within is =
     let rest = rules_text (codes ",") (drop (i + 1) rules) in
@@ -160,41 +163,42 @@ pub rules-written : (before out separator : List ℕ) (rules : List PushRule) (i
     → out ++ rules_text separator (drop i rules) ≡ (before ++ codes "[") ++ rules_text [] rules
     → out ++ codes "]" ≡ before ++ canonical (rules_list rules)
 rules-written before out separator rules i over written =
-    let none = sym (append-nil out) ∙ ap (λ text. out ++ text) (sym (at_drop_all (rules_text separator) rules i over)) in
+    let none =
+    sym (append-nil out) ∙ ap (λ text. out ++ text) (sym (at_drop_all (rules_text separator) rules i over)) in
     ap (λ text. text ++ codes "]") (none ∙ written)
     ∙ append_assoc (before ++ codes "[") (rules_text [] rules) (codes "]")
     ∙ append_assoc before (codes "[") (rules_text [] rules ++ codes "]")
     ∙ ap (λ text. before ++ text) (sym (canonical-separated (map rule_object rules)))
 
--- the five lists, one after another
-abbrev pub five_lists : (content override room sender underride : List ℕ) → List ℕ
-five_lists content override room sender underride =
-    codes "{" ++ ((codes "\"content\":" ++ content) ++ ((codes ",\"override\":" ++ override)
-    ++ ((codes ",\"room\":" ++ room) ++ ((codes ",\"sender\":" ++ sender)
-    ++ ((codes ",\"underride\":" ++ underride) ++ codes "}")))))
+-- the text of a list of rules behind its key
+abbrev pub list_text : List ℕ → List PushRule → List ℕ
+list_text key rules = key ++ canonical (rules_list rules)
 
+-- the five lists, one after another
 printed_rules-parts : (rules : PushRuleset)
-    → printed_rules rules ≡ five_lists (canonical (rules_list rules.content)) (canonical (rules_list rules.override)) (canonical (rules_list rules.room))
-    (canonical (rules_list rules.sender)) (canonical (rules_list rules.underride))
+    → printed_rules rules ≡ codes "{" ++ (list_text (codes "\"content\":") rules.content
+    ++ (list_text (codes ",\"override\":") rules.override ++ (list_text (codes ",\"room\":") rules.room
+    ++ (list_text (codes ",\"sender\":") rules.sender
+    ++ (list_text (codes ",\"underride\":") rules.underride ++ codes "}")))))
 unfolding escape_byte printed_rules
 printed_rules-parts rules =
     object-written (codes "content", rules_list rules.content)
-    ((codes "override", rules_list rules.override) ∷ (codes "room", rules_list rules.room) ∷ (codes "sender", rules_list rules.sender)
-    ∷ (codes "underride", rules_list rules.underride) ∷ [])
+    ((codes "override", rules_list rules.override) ∷ (codes "room", rules_list rules.room)
+    ∷ (codes "sender", rules_list rules.sender) ∷ (codes "underride", rules_list rules.underride) ∷ [])
 
 -- the lists appended, one after another
 pub printed_rules-assembled : (before : List ℕ) (rules : PushRuleset)
-    → ((((((before ++ codes "{") ++ (codes "\"content\":" ++ canonical (rules_list rules.content)))
-    ++ (codes ",\"override\":" ++ canonical (rules_list rules.override)))
-    ++ (codes ",\"room\":" ++ canonical (rules_list rules.room)))
-    ++ (codes ",\"sender\":" ++ canonical (rules_list rules.sender)))
-    ++ (codes ",\"underride\":" ++ canonical (rules_list rules.underride))) ++ codes "}"
+    → ((((((before ++ codes "{") ++ list_text (codes "\"content\":") rules.content)
+    ++ list_text (codes ",\"override\":") rules.override) ++ list_text (codes ",\"room\":") rules.room)
+    ++ list_text (codes ",\"sender\":") rules.sender)
+    ++ list_text (codes ",\"underride\":") rules.underride) ++ codes "}"
     ≡ before ++ printed_rules rules
 printed_rules-assembled before rules =
-    seven before (codes "{") (codes "\"content\":" ++ canonical (rules_list rules.content)) (codes ",\"override\":" ++ canonical (rules_list rules.override))
-    (codes ",\"room\":" ++ canonical (rules_list rules.room)) (codes ",\"sender\":" ++ canonical (rules_list rules.sender))
-    (codes ",\"underride\":" ++ canonical (rules_list rules.underride)) (codes "}")
+    seven before (codes "{") (list_text (codes "\"content\":") rules.content)
+    (list_text (codes ",\"override\":") rules.override) (list_text (codes ",\"room\":") rules.room)
+    (list_text (codes ",\"sender\":") rules.sender) (list_text (codes ",\"underride\":") rules.underride) (codes "}")
     ∙ ap (λ text. before ++ text) (sym (printed_rules-parts rules))
   where
-    seven : (o b c d e f g z : List ℕ) → ((((((o ++ b) ++ c) ++ d) ++ e) ++ f) ++ g) ++ z ≡ o ++ (b ++ (c ++ (d ++ (e ++ (f ++ (g ++ z))))))
+    seven : (o b c d e f g z : List ℕ)
+        → ((((((o ++ b) ++ c) ++ d) ++ e) ++ f) ++ g) ++ z ≡ o ++ (b ++ (c ++ (d ++ (e ++ (f ++ (g ++ z))))))
     seven o b c d e f g z = simp append_assoc

@@ -80,9 +80,14 @@ fn the_predefined_rules_in_a_reply(rt: HostRuntime) {
 }
 
 /// The only content rule and the first override rule.
-const FIRST_RULES: &str =
-    r#"= {"content":[{"actions":["notify",{"set_tweak":"sound","value":"default"},{"set_tweak":"highlight"}],"default":true,"enabled":true,"pattern":"b","rule_id":".m.rule.contains_user_name"}],"override":[{"actions":[],"conditions":[],"default":true,"enabled":false,"rule_id":".m.rule.master"},{"#;
+const FIRST_RULES: &str = "= {\"content\":[{\"actions\":[\"notify\",\
+    {\"set_tweak\":\"sound\",\"value\":\"default\"},{\"set_tweak\":\"highlight\"}],\
+    \"default\":true,\"enabled\":true,\"pattern\":\"b\",\
+    \"rule_id\":\".m.rule.contains_user_name\"}],\
+    \"override\":[{\"actions\":[],\"conditions\":[],\
+    \"default\":true,\"enabled\":false,\"rule_id\":\".m.rule.master\"},{";
 
 /// The last underride rule.
-const LAST_RULE: &str =
-    "},{\"actions\":[\"notify\"],\"conditions\":[{\"key\":\"type\",\"kind\":\"event_match\",\"pattern\":\"m.room.encrypted\"}],\"default\":true,\"enabled\":true,\"rule_id\":\".m.rule.encrypted\"}]}\n";
+const LAST_RULE: &str = "},{\"actions\":[\"notify\"],\
+    \"conditions\":[{\"key\":\"type\",\"kind\":\"event_match\",\"pattern\":\"m.room.encrypted\"}],\
+    \"default\":true,\"enabled\":true,\"rule_id\":\".m.rule.encrypted\"}]}\n";

@@ -7,4 +7,5 @@ returns-in-Ok-clause-command c form is = command_by-right c.args.line form c.in-
 pub returns-in-Err-BadField-clause-command : goal.returns-in-Err-BadField-clause-command
 returns-in-Err-BadField-clause-command c form is =
     rw c.bad_field.ensures
-    (command_by-wrong c.args.line form c.in-Err-BadField.field-0 c.in-Err-BadField.field is c.in-Err-BadField.field-0-is c.in-Err-BadField.ensures.input)
+    (command_by-wrong c.args.line form c.in-Err-BadField.field-0 c.in-Err-BadField.field is
+    c.in-Err-BadField.field-0-is c.in-Err-BadField.ensures.input)
