@@ -58,6 +58,7 @@ pub fn denied_into(alloc: Global, denial: &Denial, out: &mut Vec<u8>) -> Result<
 /// # Errors
 ///
 /// `OutOfMemory` where the allocator has none.
+#[tactic(auto, using(crate::proofs::OwnRulesLemmas::edited_reply, crate::proofs::OwnRulesLemmas::predefined_reply))]
 pub fn reply_into<Q: Questions>(
     alloc: Global,
     questions: &Q,
