@@ -6,6 +6,7 @@ pub mod CuttingLemmas
 pub mod LawsLemmas
 pub mod LinesLemmas
 pub mod ListLemmas
+pub mod OwnRulesLemmas
 pub mod ReplyLemmas
 pub mod RestingLemmas
 pub mod RunsLemmas

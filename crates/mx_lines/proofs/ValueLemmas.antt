@@ -6,13 +6,13 @@ use Rattle.mx_json.specs.declared.value.JsonObject.{JsonObject}
 use Rattle.mx_json.specs.Json.{is_valid, is_whole, largest_whole}
 use Rattle.mx_json.proofs.JsonLemmas.{depth_of-Object}
 use Rattle.mx_json.proofs.ObjectLemmas.{is_ascii, is_fit, is_fit-Whole, is_fit-Text, is_fit_from, is_utf8-ascii, is_valid-Object}
-use Rattle.mx_records.specs.FieldNames.{name_of}
+use Rattle.mx_records.specs.FieldNames.{field_of_part, name_of}
 use Rattle.mx_records.specs.Refusing.{most_inputs, NamesAPosition}
 use Rattle.mx_rows.specs.declared.counts.Counts.{Counts}
 use Rattle.mx_records.specs.declared.field_name.FieldName.{FieldName}
 use Rattle.mx_records.specs.declared.field_name.FieldName.TheVariants.{Cmd}
 use Rattle.mx_records.specs.declared.refusal.Refusal.{Refusal}
-use Rattle.mx_records.specs.declared.refusal.Refusal.TheVariants.{NotLocal, KnownEvent, Full}
+use Rattle.mx_records.specs.declared.refusal.Refusal.TheVariants.{NotLocal, KnownEvent, RuleReserved, BadRule, RuleUnknown, AnchorUnknown, RulesFull, Full}
 use Rattle.mx_lines.specs.declared.command.Denial.{Denial}
 use Rattle.mx_lines.specs.declared.command.Denial.TheVariants.{TooLong, Line, Input}
 use Rattle.mx_lines.specs.declared.command.LineRefusal.{LineRefusal}
@@ -62,6 +62,18 @@ valid-refusal (KnownEvent position) names =
     is_valid-Object (members_of ((codes "error", Text (codes "KnownEvent")) ∷ (codes "position", number_of position) ∷ [])) refl
     (and_from _ _ (fit_text (codes "error") (codes "KnownEvent") refl refl)
     (and_from _ _ (fit_number (codes "position") position refl (omega arith)) refl))
+valid-refusal RuleReserved names = valid-error (codes "RuleReserved") refl
+valid-refusal (BadRule part) names =
+    let name = name_of (field_of_part part) in
+    is_valid-Object (members_of ((codes "error", Text (codes "BadRule")) ∷ (codes "part", Text name) ∷ [])) refl
+    (and_from _ _ (fit_text (codes "error") (codes "BadRule") refl refl)
+    (and_from _ _ (fit_text (codes "part") name refl (valid-field (field_of_part part))) refl))
+valid-refusal RuleUnknown names = valid-error (codes "RuleUnknown") refl
+valid-refusal AnchorUnknown names = valid-error (codes "AnchorUnknown") refl
+valid-refusal RulesFull names =
+    is_valid-Object (members_of ((codes "error", Text (codes "RulesFull")) ∷ (codes "limit", number_of 1000) ∷ [])) refl
+    (and_from _ _ (fit_text (codes "error") (codes "RulesFull") refl refl)
+    (and_from _ _ (fit_number (codes "limit") 1000 refl (omega arith)) refl))
 valid-refusal Full names =
     is_valid-Object (members_of ((codes "error", Text (codes "Full")) ∷ (codes "limit", number_of most_inputs) ∷ [])) refl
     (and_from _ _ (fit_text (codes "error") (codes "Full") refl refl)

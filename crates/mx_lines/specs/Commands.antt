@@ -10,16 +10,17 @@ use Rattle.mx_json.specs.Reading.{read_json}
 use Rattle.mx_records.specs.declared.field_name.FieldName.TheVariants.{Cmd, User, RoomId, Threads}
 use Rattle.mx_records.specs.declared.input.Input.{Input}
 use Rattle.mx_records.specs.declared.input_word.InputWord.{InputWord}
-use Rattle.mx_records.specs.Forms.{Form, value_of_form, input_form_of}
+use Rattle.mx_records.specs.Forms.{Form, value_of_form, input_form_of, user_in}
 use Rattle.mx_records.specs.InputWords.{input_word_in}
+use Rattle.mx_records.specs.Rules.{is_valid_input}
 use Rattle.mx_lines.specs.declared.command.Command.{Command}
-use Rattle.mx_lines.specs.declared.command.Command.TheVariants.{Input as InputCommand, Counts}
+use Rattle.mx_lines.specs.declared.command.Command.TheVariants.{Input as InputCommand, Counts, Rules}
 use Rattle.mx_lines.specs.declared.command.LineError.{LineError}
 use Rattle.mx_lines.specs.declared.command.LineError.TheVariants.{Refused, OutOfMemory as WantOfMemory}
 use Rattle.mx_lines.specs.declared.command.LineRefusal.{LineRefusal}
 use Rattle.mx_lines.specs.declared.command.LineRefusal.TheVariants.{BadLine, NotWhole as NumberNotWhole, BadField, NotBuilt}
 use Rattle.mx_lines.specs.declared.question_word.QuestionWord.{QuestionWord}
-use Rattle.mx_lines.specs.declared.question_word.QuestionWord.TheVariants.{Counts as CountsWord}
+use Rattle.mx_lines.specs.declared.question_word.QuestionWord.TheVariants.{Counts as CountsWord, Rules as RulesWord}
 use Rattle.mx_lines.specs.QuestionWords.{question_word_in}
 
 -- how deep a line may be nested
@@ -28,12 +29,11 @@ deepest_line = 100
 
 -- ---- what stands in a line
 
-abbrev pub user_in : Json → List ℕ
-user_in line = text_or_empty (codes "user") line
-
+-- the value of `room_id`, and the empty text where that is none
 abbrev pub room_in : Json → List ℕ
 room_in line = text_or_empty (codes "room_id") line
 
+-- the value is true or false
 abbrev pub is_truth : Json → Bool
 is_truth json = is_some (truth_of json)
 
@@ -56,9 +56,17 @@ counts_form line = record {
   value = Counts (user_in line) (room_in line) (threads_in line);
 }
 
+-- `rules`: a user id
+abbrev pub rules_form : Json → Form Command
+rules_form line = record {
+  fields = (User, is_user_id (user_in line)) ∷ [];
+  value = Rules (user_in line);
+}
+
 -- The form of each command that is built and is no input.
 abbrev pub question_form_of : QuestionWord → Json → Option (Form Command)
 question_form_of CountsWord line = Some (counts_form line)
+question_form_of RulesWord line = Some (rules_form line)
 question_form_of other line = None
 
 -- the command that asks for what has this form to be accepted
@@ -107,3 +115,9 @@ abbrev pub ReadsAs : Result Command LineRefusal → Result Command LineError →
 ReadsAs expected (Ok command) = expected ≡ Ok command
 ReadsAs expected (Err (Refused refusal)) = expected ≡ Err refusal
 ReadsAs expected (Err WantOfMemory) = Unit {0}
+
+-- the JSON values that a command holds are valid
+abbrev pub is_valid_command : Command → Bool
+is_valid_command (InputCommand input) = is_valid_input input
+is_valid_command (Counts user room threads) = true
+is_valid_command (Rules user) = true

@@ -4,8 +4,8 @@ use Rattle.mx_json.specs.declared.value.Json.{Json, Whole, Text, Object}
 use Rattle.mx_json.specs.Canonical.{canonical}
 use Rattle.mx_rows.specs.declared.counts.Counts.{Counts}
 use Rattle.mx_records.specs.declared.refusal.Refusal.{Refusal}
-use Rattle.mx_records.specs.declared.refusal.Refusal.TheVariants.{NotLocal, KnownEvent, Full}
-use Rattle.mx_records.specs.FieldNames.{name_of}
+use Rattle.mx_records.specs.declared.refusal.Refusal.TheVariants.{NotLocal, KnownEvent, RuleReserved, BadRule, RuleUnknown, AnchorUnknown, RulesFull, Full}
+use Rattle.mx_records.specs.FieldNames.{field_of_part, name_of}
 use Rattle.mx_records.specs.Refusing.{most_inputs, NamesAPosition}
 use Rattle.mx_lines.specs.declared.command.Denial.{Denial}
 use Rattle.mx_lines.specs.declared.command.Denial.TheVariants.{TooLong, Line, Input}
@@ -20,6 +20,7 @@ reply_text value = codes "= " ++ canonical value
 abbrev pub object_of : List (List ℕ × Json) → Json
 object_of members = Object record { pairs = members }
 
+-- a number that isn't negative
 abbrev pub number_of : ℕ → Json
 number_of n = Whole (pos n)
 
@@ -46,6 +47,13 @@ abbrev pub refusal_value : Refusal → Json
 refusal_value NotLocal = error_value (codes "NotLocal") []
 refusal_value (KnownEvent position) =
     error_value (codes "KnownEvent") ((codes "position", number_of position) ∷ [])
+refusal_value RuleReserved = error_value (codes "RuleReserved") []
+refusal_value (BadRule part) =
+    error_value (codes "BadRule") ((codes "part", Text (name_of (field_of_part part))) ∷ [])
+refusal_value RuleUnknown = error_value (codes "RuleUnknown") []
+refusal_value AnchorUnknown = error_value (codes "AnchorUnknown") []
+refusal_value RulesFull =
+    error_value (codes "RulesFull") ((codes "limit", number_of 1000) ∷ [])
 refusal_value Full = error_value (codes "Full") ((codes "limit", number_of most_inputs) ∷ [])
 
 -- why a line is refused

@@ -10,9 +10,17 @@ pub enum Command {
     Input(Input),
     /// How many events of the room are unread for the user, thread by thread or in sum?
     Counts {
+        /// For whom.
         user: UserId,
+        /// Of which room.
         room: RoomId,
+        /// Whether thread by thread.
         threads: bool,
+    },
+    /// What are the user's push rules?
+    Rules {
+        /// Whose rules.
+        user: UserId,
     },
 }
 

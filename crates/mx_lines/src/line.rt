@@ -1,9 +1,9 @@
-ghost use Rattle.std.specs.Prelude.{◌≡◌, ◌≤◌, true, length, Some, MatchOption, false};
+ghost use Rattle.std.specs.Prelude.{◌≡◌, ◌≤◌, true, length, IfOk, Some, MatchOption, false};
 ghost use Rattle.mx_json.specs.Json.{is_valid};
 ghost use Rattle.mx_records.specs.declared.input.Input.{Input};
 ghost use Rattle.mx_records.specs.Forms.{Form, input_form_in};
 ghost use Rattle.mx_lines.specs.Cutting.{longest_line};
-ghost use Rattle.mx_lines.specs.Commands.{command_of, command_in, question_in, command_by, input_form, counts_form};
+ghost use Rattle.mx_lines.specs.Commands.{command_of, command_in, question_in, command_by, input_form, counts_form, rules_form, is_valid_command};
 ghost use Rattle.mx_lines.specs.Commands.{has_threads_or_none, threads_in, ReadsAs};
 
 use crate::command::{Command, LineError, LineRefusal};
@@ -30,7 +30,8 @@ const DEEPEST_LINE: u32 = 100;
 #[tactic(auto, unfolding(crate::specs::Commands::command_of))]
 pub fn read(alloc: Global, line: &[u8]) -> Result<Command, LineError>
     requires { length line.now ≤ longest_line }
-    ensures { ReadsAs (command_of line.now) result }
+    ensures command { ReadsAs (command_of line.now) result }
+    ensures valid { IfOk result (λ command. is_valid_command command ≡ true) }
 {
     match Json::from_text(alloc, line, DEEPEST_LINE) {
         Ok(value) => read_command(alloc, value),
@@ -44,11 +45,14 @@ pub fn read(alloc: Global, line: &[u8]) -> Result<Command, LineError>
 #[tactic(auto, unfolding(crate::specs::Commands::command_in))]
 fn read_command(alloc: Global, line: Json) -> Result<Command, LineError>
     requires { is_valid line ≡ true }
-    ensures { ReadsAs (command_in line) result }
+    ensures command { ReadsAs (command_in line) result }
+    ensures valid { IfOk result (λ command. is_valid_command command ≡ true) }
 {
     match InputWord::of(&line) {
-        Some(InputWord::Event) => read_input(alloc, line),
-        Some(_) => Err(LineError::Refused(LineRefusal::NotBuilt)),
+        Some(InputWord::Receipt | InputWord::Pusher) => {
+            Err(LineError::Refused(LineRefusal::NotBuilt))
+        }
+        Some(_) => read_input(alloc, line),
         None => read_question(alloc, &line),
     }
 }
@@ -56,8 +60,9 @@ fn read_command(alloc: Global, line: Json) -> Result<Command, LineError>
 /// The command of an input whose form is built.
 fn read_input(alloc: Global, line: Json) -> Result<Command, LineError>
     requires { is_valid line ≡ true }
-    ensures { (form : Form Input) → input_form_in line ≡ Some form
+    ensures command { (form : Form Input) → input_form_in line ≡ Some form
         → ReadsAs (command_by (input_form form)) result }
+    ensures valid { IfOk result (λ command. is_valid_command command ≡ true) }
 {
     match Input::from_json(alloc, line) {
         Ok(input) => Ok(Command::Input(input)),
@@ -70,10 +75,12 @@ fn read_input(alloc: Global, line: Json) -> Result<Command, LineError>
 #[tactic(auto, unfolding(crate::specs::Commands::question_in))]
 fn read_question(alloc: Global, line: &Json) -> Result<Command, LineError>
     requires { is_valid line.now ≡ true }
-    ensures { ReadsAs (question_in line.now) result }
+    ensures command { ReadsAs (question_in line.now) result }
+    ensures valid { IfOk result (λ command. is_valid_command command ≡ true) }
 {
     match QuestionWord::of(line) {
         Some(QuestionWord::Counts) => read_counts(alloc, line),
+        Some(QuestionWord::Rules) => read_rules(alloc, line),
         Some(_) => Err(LineError::Refused(LineRefusal::NotBuilt)),
         None => Err(bad_field(FieldName::Cmd)),
     }
@@ -88,7 +95,8 @@ fn bad_field(field: FieldName) -> LineError
 /// The command of a `counts` line.
 fn read_counts(alloc: Global, line: &Json) -> Result<Command, LineError>
     requires { is_valid line.now ≡ true }
-    ensures { ReadsAs (command_by (counts_form line.now)) result }
+    ensures command { ReadsAs (command_by (counts_form line.now)) result }
+    ensures valid { IfOk result (λ command. is_valid_command command ≡ true) }
 {
     let user = match UserId::read(alloc, line.text_or_empty("user")) {
         Ok(user) => user,
@@ -107,6 +115,19 @@ fn read_counts(alloc: Global, line: &Json) -> Result<Command, LineError>
             threads,
         }),
         None => Err(bad_field(FieldName::Threads)),
+    }
+}
+
+/// The command of a `rules` line.
+fn read_rules(alloc: Global, line: &Json) -> Result<Command, LineError>
+    requires { is_valid line.now ≡ true }
+    ensures command { ReadsAs (command_by (rules_form line.now)) result }
+    ensures valid { IfOk result (λ command. is_valid_command command ≡ true) }
+{
+    match UserId::read(alloc, line.text_or_empty("user")) {
+        Ok(user) => Ok(Command::Rules { user }),
+        Err(IdError::BadId) => Err(bad_field(FieldName::User)),
+        Err(IdError::OutOfMemory) => Err(LineError::OutOfMemory),
     }
 }
 

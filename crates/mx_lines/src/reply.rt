@@ -1,19 +1,26 @@
 ghost use Rattle.std.specs.Prelude.{◌≡◌, ◌≤◌, ◌++◌, [], ◌∷◌, true, codes, take, vec_len, IfOk, OnOk, OnErr};
 ghost use Rattle.mx_json.specs.Json.{is_valid, largest_whole};
 ghost use Rattle.mx_records.specs.History.{History};
-ghost use Rattle.mx_records.specs.Refusing.{most_inputs, NamesAPosition};
+ghost use Rattle.mx_records.specs.Refusing.{is_local, most_inputs, NamesAPosition};
 ghost use Rattle.mx_records.specs.Snapshot.{snapshot_of};
+ghost use Rattle.mx_rule.specs.Predefined.{predefined_rules};
+ghost use Rattle.mx_rule.specs.Printed.{rules_object};
 ghost use Rattle.mx_lines.specs.Lines.{with_feed};
 ghost use Rattle.mx_lines.specs.Replies.{reply_text, number_of, error_value, ok_value, line_refusal_value, refusal_value, denied_value, numbers_of, by_thread, in_sum, counts_value, NamesInRange};
 ghost use Rattle.mx_lines.specs.Admission.{reply_to, IsQuestion};
 
 use crate::command::{Command, Denial, LineRefusal};
-use mx_json::{Json, JsonObject, JsonText, OutOfMemory};
-use mx_records::{Counts, MOST_INPUTS, Questions, Refusal};
+use mx_defaults::predefined;
+use mx_json::{Json, JsonObject, JsonText, OutOfMemory, UserId};
+use mx_records::{Counts, FieldName, MOST_INPUTS, Questions, Refusal};
+use mx_rule::Ruleset;
 use std::alloc::Global;
 
 #[cfg(test)]
 mod tests;
+
+/// How many rules a user may make.
+const MOST_RULES: u64 = 1_000;
 
 /// Appends the reply to an input that was accepted at this position (from 1), with its line feed.
 /// After an error `out` is as before.
@@ -45,19 +52,22 @@ pub fn denied_into(alloc: Global, denial: &Denial, out: &mut Vec<u8>) -> Result<
     value_into(alloc, &denied_value(alloc, denial)?, out)
 }
 
-/// Appends the reply to a question of a local user, with its line feed. After an error `out` is as
-/// before.
+/// Appends the reply to a question of a local user of this server, with its line feed. After an
+/// error `out` is as before.
 ///
 /// # Errors
 ///
 /// `OutOfMemory` where the allocator has none.
+#[tactic(auto, using(crate::proofs::OwnRulesLemmas::edited_reply, crate::proofs::OwnRulesLemmas::predefined_reply))]
 pub fn reply_into<Q: Questions>(
     alloc: Global,
     questions: &Q,
+    server: &str,
     command: &Command,
     out: &mut Vec<u8>,
 ) -> Result<(), OutOfMemory>
-    requires { IsQuestion (Q.server questions.now) command.now }
+    requires question { IsQuestion (Q.server questions.now) command.now }
+    requires server { server.now ≡ Q.server questions.now }
     ensures text { (h : History) → Q.snapshot questions.now ≡ snapshot_of (Q.server questions.now) h
         → OnOk result (out.new.items ≡ out.old.items
         ++ with_feed (reply_text (reply_to (Q.server questions.now) h command.now))) }
@@ -69,8 +79,54 @@ pub fn reply_into<Q: Questions>(
             room,
             threads,
         } => counts_into(alloc, questions.counts(user, room), *threads, out),
+        Command::Rules { user } => match questions.rules(user) {
+            Some(rules) => rules_into(alloc, rules, out),
+            None => predefined_into(alloc, user, server, out),
+        },
         Command::Input(_) => unreachable!(),
     }
+}
+
+/// Appends the reply with the predefined rules of a local user. After an error `out` is as before.
+fn predefined_into(
+    alloc: Global,
+    user: &UserId,
+    server: &str,
+    out: &mut Vec<u8>,
+) -> Result<(), OutOfMemory>
+    requires { is_local server.now user.now ≡ true }
+    ensures text { OnOk result (out.new.items ≡ out.old.items
+        ++ with_feed (reply_text (rules_object (predefined_rules server.now user.now)))) }
+    ensures err { OnErr result (out.new.items ≡ out.old.items) }
+{
+    rules_into(alloc, &predefined(alloc, user, server)?, out)
+}
+
+/// Appends the reply with these rules. After an error `out` is as before.
+fn rules_into(alloc: Global, rules: &Ruleset, out: &mut Vec<u8>) -> Result<(), OutOfMemory>
+    ensures text { OnOk result
+        (out.new.items ≡ out.old.items ++ with_feed (reply_text (rules_object rules.now))) }
+    ensures err { OnErr result (out.new.items ≡ out.old.items) }
+{
+    let length = out.len();
+    let written = append_rules(alloc, rules, out);
+    if written.is_err() {
+        out.truncate(length);
+    }
+    written
+}
+
+/// Appends the same, or with an error a part of it.
+#[tactic(auto, unfolding(crate::specs::Replies::reply_text, mx_rule::specs::Printed::printed_rules))]
+fn append_rules(alloc: Global, rules: &Ruleset, out: &mut Vec<u8>) -> Result<(), OutOfMemory>
+    ensures text { OnOk result
+        (out.new.items ≡ out.old.items ++ with_feed (reply_text (rules_object rules.now))) }
+    ensures front { take (vec_len out.old) out.new.items ≡ out.old.items }
+{
+    out.extend_from_slice(b"= ")?;
+    rules.json_into(alloc, out)?;
+    out.push(b'\n')?;
+    Ok(())
 }
 
 fn counts_into(
@@ -168,6 +224,14 @@ fn refusal_value(alloc: Global, refusal: &Refusal) -> Result<Json, OutOfMemory>
         Refusal::KnownEvent(position) => {
             error_beside(alloc, "KnownEvent", "position", number(*position))
         }
+        Refusal::RuleReserved => error_value(alloc, "RuleReserved"),
+        Refusal::BadRule(part) => {
+            let part = Json::Text(JsonText::read(alloc, FieldName::of_part(*part).name())?);
+            error_beside(alloc, "BadRule", "part", part)
+        }
+        Refusal::RuleUnknown => error_value(alloc, "RuleUnknown"),
+        Refusal::AnchorUnknown => error_value(alloc, "AnchorUnknown"),
+        Refusal::RulesFull => error_beside(alloc, "RulesFull", "limit", number(MOST_RULES)),
         Refusal::Full => error_beside(alloc, "Full", "limit", number(MOST_INPUTS)),
     }
 }

@@ -10,7 +10,9 @@ use Rattle.mx_json.proofs.JsonLemmas.{with_value}
 use Rattle.mx_rule.specs.declared.criterion.Criterion.{Criterion}
 use Rattle.mx_rule.specs.declared.criterion.Criterion.TheVariants.{Conditions, Word, InRoom, FromSender}
 use Rattle.mx_rule.specs.Rule.{PushRule}
+use Rattle.mx_rule.specs.Ruleset.{PushRuleset}
 use Rattle.mx_rule.specs.Printed.{conditions_pair, conditions_text, pattern_pair, pattern_text, printed, separated}
+use Rattle.mx_rule.specs.Printed.{printed_rules, rule_object, rules_list}
 
 -- ---- the texts of a list, one after another
 
@@ -136,3 +138,67 @@ printed-assembled before rule =
   where
     nine : (o k a c d e p r i z : List ℕ) → ((((((((o ++ k) ++ a) ++ c) ++ d) ++ e) ++ p) ++ r) ++ i) ++ z ≡ o ++ (k ++ (a ++ (c ++ (d ++ (e ++ (p ++ (r ++ (i ++ z))))))))
     nine o k a c d e p r i z = simp append_assoc
+
+-- ---- the rules of a user
+
+-- the texts of these rules: this one before the first, a comma before each other
+abbrev pub rules_text : List ℕ → List PushRule → List ℕ
+rules_text before rules = separated before (map rule_object rules)
+
+-- one more rule of a list
+pub rules-more : (out separator : List ℕ) (rules : List PushRule) (i : ℕ) (rule : PushRule)
+    → i < length rules → rule ≡ get_or rules i rule
+    → ((out ++ separator) ++ printed rule) ++ rules_text (codes ",") (drop (i + 1) rules)
+    ≡ out ++ rules_text separator (drop i rules)
+unfolding printed
+rules-more out separator rules i rule within is =
+    let rest = rules_text (codes ",") (drop (i + 1) rules) in
+    append_assoc (out ++ separator) (printed rule) rest
+    ∙ append_assoc out separator (printed rule ++ rest)
+    ∙ ap (λ x. out ++ (separator ++ (printed x ++ rest))) is
+    ∙ ap (λ text. out ++ text) (sym (at_drop_more (rules_text separator) rules i rule within))
+
+-- all rules of a list
+pub rules-written : (before out separator : List ℕ) (rules : List PushRule) (i : ℕ) → length rules ≤ i
+    → out ++ rules_text separator (drop i rules) ≡ (before ++ codes "[") ++ rules_text [] rules
+    → out ++ codes "]" ≡ before ++ canonical (rules_list rules)
+rules-written before out separator rules i over written =
+    let none =
+    sym (append-nil out) ∙ ap (λ text. out ++ text) (sym (at_drop_all (rules_text separator) rules i over)) in
+    ap (λ text. text ++ codes "]") (none ∙ written)
+    ∙ append_assoc (before ++ codes "[") (rules_text [] rules) (codes "]")
+    ∙ append_assoc before (codes "[") (rules_text [] rules ++ codes "]")
+    ∙ ap (λ text. before ++ text) (sym (canonical-separated (map rule_object rules)))
+
+-- the text of a list of rules behind its key
+abbrev pub list_text : List ℕ → List PushRule → List ℕ
+list_text key rules = key ++ canonical (rules_list rules)
+
+-- the five lists, one after another
+printed_rules-parts : (rules : PushRuleset)
+    → printed_rules rules ≡ codes "{" ++ (list_text (codes "\"content\":") rules.content
+    ++ (list_text (codes ",\"override\":") rules.override ++ (list_text (codes ",\"room\":") rules.room
+    ++ (list_text (codes ",\"sender\":") rules.sender
+    ++ (list_text (codes ",\"underride\":") rules.underride ++ codes "}")))))
+unfolding escape_byte printed_rules
+printed_rules-parts rules =
+    object-written (codes "content", rules_list rules.content)
+    ((codes "override", rules_list rules.override) ∷ (codes "room", rules_list rules.room)
+    ∷ (codes "sender", rules_list rules.sender) ∷ (codes "underride", rules_list rules.underride) ∷ [])
+
+-- the lists appended, one after another
+pub printed_rules-assembled : (before : List ℕ) (rules : PushRuleset)
+    → ((((((before ++ codes "{") ++ list_text (codes "\"content\":") rules.content)
+    ++ list_text (codes ",\"override\":") rules.override) ++ list_text (codes ",\"room\":") rules.room)
+    ++ list_text (codes ",\"sender\":") rules.sender)
+    ++ list_text (codes ",\"underride\":") rules.underride) ++ codes "}"
+    ≡ before ++ printed_rules rules
+printed_rules-assembled before rules =
+    seven before (codes "{") (list_text (codes "\"content\":") rules.content)
+    (list_text (codes ",\"override\":") rules.override) (list_text (codes ",\"room\":") rules.room)
+    (list_text (codes ",\"sender\":") rules.sender) (list_text (codes ",\"underride\":") rules.underride) (codes "}")
+    ∙ ap (λ text. before ++ text) (sym (printed_rules-parts rules))
+  where
+    seven : (o b c d e f g z : List ℕ)
+        → ((((((o ++ b) ++ c) ++ d) ++ e) ++ f) ++ g) ++ z ≡ o ++ (b ++ (c ++ (d ++ (e ++ (f ++ (g ++ z))))))
+    seven o b c d e f g z = simp append_assoc

@@ -1,11 +1,12 @@
 -- How a push rule is printed: the object of the Client-Server API v1.11, "Push rules: API", as canonical JSON.
-use Rattle.std.specs.Prelude.{ℕ, List, [], ◌∷◌, ◌++◌, codes}
+use Rattle.std.specs.Prelude.{ℕ, List, [], ◌∷◌, ◌++◌, codes, map}
 use Rattle.mx_json.specs.declared.value.Json.{Json, Truth, Text, List as ListOf, Object}
 use Rattle.json.specs.Print.{quoted}
 use Rattle.mx_json.specs.Canonical.{canonical}
 use Rattle.mx_rule.specs.declared.criterion.Criterion.{Criterion}
 use Rattle.mx_rule.specs.declared.criterion.Criterion.TheVariants.{Conditions, Word}
 use Rattle.mx_rule.specs.Rule.{PushRule}
+use Rattle.mx_rule.specs.Ruleset.{PushRuleset}
 
 -- the conditions of an override or underride rule
 abbrev pub conditions_pair : Criterion → List (List ℕ × Json)
@@ -34,6 +35,25 @@ rule_object rule = Object record { pairs = rule_pairs rule }
 -- a rule as text
 unfoldable pub printed : PushRule → List ℕ
 printed rule = canonical (rule_object rule)
+
+-- ---- the rules of a user
+
+-- rules as a JSON list, in their order
+abbrev pub rules_list : List PushRule → Json
+rules_list rules = ListOf record { items = map rule_object rules }
+
+-- The rules of a user as a JSON object: a list for each kind, in order of importance.
+abbrev pub rules_object : PushRuleset → Json
+rules_object rules = Object record {
+  pairs =
+      (codes "content", rules_list rules.content) ∷ (codes "override", rules_list rules.override)
+      ∷ (codes "room", rules_list rules.room) ∷ (codes "sender", rules_list rules.sender)
+      ∷ (codes "underride", rules_list rules.underride) ∷ [];
+}
+
+-- The rules of a user as text.
+unfoldable pub printed_rules : PushRuleset → List ℕ
+printed_rules rules = canonical (rules_object rules)
 
 -- ---- the parts of the text, in order; for private clauses
 
