@@ -1,5 +1,5 @@
 -- What user ids, room ids and event ids are: the sigils of the Matrix specification's 'Common identifier format'; the rest is ours.
-use Rattle.std.specs.Prelude.{ℕ, ◌+◌, ◌-◌, ◌==◌, nat_lt, nat_le, Bool, false, ◌&&◌, ◌||◌, if◌then◌else◌, List, [], ◌∷◌, ◌++◌, length, take, drop, codes, Option, Some, None, Result, Ok, Err}
+use Rattle.std.specs.Prelude.{ℕ, ◌+◌, ◌-◌, ◌==◌, nat_lt, nat_le, Bool, false, ◌&&◌, ◌||◌, if◌then◌else◌, List, [], ◌∷◌, ◌++◌, length, take, drop, codes, Option, Some, None, is_some, Result, Ok, Err}
 use Rattle.std.specs.Char.{is_ascii_digit, is_ascii_lowercase}
 use Rattle.std.specs.List.{list_all, list_any}
 use Rattle.std.specs.Str.{bytes_eq}
@@ -79,3 +79,7 @@ unfoldable pub localpart_of : List ℕ → List ℕ → Option (List ℕ)
 localpart_of server id =
     let part = part_before server id in
     if is_localpart part && bytes_eq id (local_user server part) then Some part else None
+
+-- the user id is local: it has a localpart on this server
+abbrev pub is_local : List ℕ → List ℕ → Bool
+is_local server id = is_some (localpart_of server id)
