@@ -30,6 +30,10 @@ top_pairs other = []
 abbrev pub member : List ℕ → Json → Option Json
 member key json = member_in key (top_pairs (out-Json json))
 
+-- the value of the member that stands at this place, counted from 0; a value that is no object has none
+abbrev pub member_at : ℕ → Json → Option Json
+member_at place json = option_map (λ pair. pair.1) (slice_get (top_pairs (out-Json json)) place)
+
 -- the value is an object
 abbrev pub is_object_at_top : Json-F Json JsonList JsonObject → Bool
 is_object_at_top (Json-F.Object object) = true
