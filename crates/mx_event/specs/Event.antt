@@ -15,18 +15,23 @@ use Rattle.mx_event.specs.declared.relation.Relation.TheVariants.{Thread, Other,
 
 -- ---- the fields
 
+-- the id of an event, empty where it has none
 abbrev pub event_id_of : Json → List ℕ
 event_id_of json = text_or_empty (codes "event_id") json
 
+-- the id of an event's room, empty where it has none
 abbrev pub room_id_of : Json → List ℕ
 room_id_of json = text_or_empty (codes "room_id") json
 
+-- who sent an event, empty where nobody is told
 abbrev pub sender_of : Json → List ℕ
 sender_of json = text_or_empty (codes "sender") json
 
+-- the type of an event, empty where it has none
 abbrev pub kind_of : Json → List ℕ
 kind_of json = text_or_empty (codes "type") json
 
+-- the content of an event, `null` where it has none
 abbrev pub content_of : Json → Json
 content_of json = unwrap_or (member (codes "content") json) Null
 
@@ -64,6 +69,7 @@ has_content json = option_map_or is_object (member (codes "content") json) false
 abbrev pub has_state_key_or_none : Json → Bool
 has_state_key_or_none json = option_map_or is_short_text (member (codes "state_key") json) true
 
+-- the fields after the ids, each with whether it is right
 abbrev pub fields_after_the_ids : Json → List (EventField × Bool)
 fields_after_the_ids json =
     (Kind, has_kind json)
@@ -88,6 +94,7 @@ abbrev pub first_wrong : {A : Type 0} → List (A × Bool) → Option A
 first_wrong [] = None
 first_wrong (field ∷ fields) = if field.1 then first_wrong fields else Some field.0
 
+-- the first field of a value that keeps it from being an event
 unfoldable pub first_wrong_field : Json → Option EventField
 first_wrong_field json = first_wrong (fields_of json)
 
@@ -122,6 +129,7 @@ pub record HoldsEvent (json : Json) (event_id room_id sender : List ℕ) (places
 
 -- ---- what an event relates to
 
+-- how an event relates to another
 pub data Related : Type 0 where
   -- it is in the thread of the event with this id
   in_thread : List ℕ → Related
@@ -146,6 +154,7 @@ relation_from None id = to_nothing
 abbrev pub relation_in : Json → Related
 relation_in relates_to = relation_from (text_at (codes "rel_type") relates_to) (text_at (codes "event_id") relates_to)
 
+-- what an event relates to, by the `m.relates_to` of its content
 unfoldable pub relation_of : Json → Related
 relation_of json = option_map_or relation_in (member (codes "m.relates_to") (content_of json)) to_nothing
 

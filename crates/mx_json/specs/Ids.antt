@@ -6,16 +6,19 @@ use Rattle.std.specs.Str.{bytes_eq}
 use Rattle.mx_json.specs.declared.id.IdError.{IdError}
 use Rattle.mx_json.specs.declared.id.IdError.TheVariants.{BadId}
 
--- the bytes `@`, `!`, `$` and `:`
+-- the byte `@`
 abbrev pub at_sign : ℕ
 at_sign = 64
 
+-- the byte `!`
 abbrev pub exclamation_mark : ℕ
 exclamation_mark = 33
 
+-- the byte `$`
 abbrev pub dollar_sign : ℕ
 dollar_sign = 36
 
+-- the byte `:`
 abbrev pub colon : ℕ
 colon = 58
 
@@ -48,12 +51,15 @@ is_event_id text = begins_with dollar_sign text && has_length_of_an_id text
 abbrev pub read_id : (List ℕ → Bool) → List ℕ → Result (List ℕ) IdError
 read_id is_id text = if is_id text then Ok text else Err BadId
 
+-- the text as a user id, or the refusal
 abbrev pub read_user_id : List ℕ → Result (List ℕ) IdError
 read_user_id text = read_id is_user_id text
 
+-- the text as a room id, or the refusal
 abbrev pub read_room_id : List ℕ → Result (List ℕ) IdError
 read_room_id text = read_id is_room_id text
 
+-- the text as an event id, or the refusal
 abbrev pub read_event_id : List ℕ → Result (List ℕ) IdError
 read_event_id text = read_id is_event_id text
 

@@ -64,8 +64,7 @@ impl Folded {
         ensures refilled { OnOk result (self.new ≡ folded text.now) }
         ensures emptied { OnErr result (self.new ≡ []) }
     {
-        self.characters.clear();
-        if let Err(error) = push_folded(&mut self.characters, text) {
+        if let Err(error) = fold_into(&mut self.characters, text) {
             self.characters.clear();
             return Err(error.into());
         }
@@ -102,13 +101,14 @@ impl Folded {
 }
 
 // Most texts are ASCII, which needs no table and no decoding.
-fn push_folded(characters: &mut Vec<char>, text: &str) -> Result<(), AllocError>
-    ensures { OnOk result (characters.new.items ≡ characters.old.items ++ folded text.now) }
+fn fold_into(target: &mut Vec<char>, text: &str) -> Result<(), AllocError>
+    ensures { OnOk result (target.new.items ≡ folded text.now) }
 {
+    target.clear();
     if text.is_ascii() {
-        push_lowered(characters, text)
+        push_lowered(target, text)
     } else {
-        push_each_folded(characters, text)
+        push_each_folded(target, text)
     }
 }
 
