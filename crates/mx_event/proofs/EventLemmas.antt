@@ -1,16 +1,17 @@
 -- How the fields of an event, tested one by one, make it one.
-use Rattle.std.proofs.Common.{◌≡◌, ◌⊎◌, inl, inr, ℕ, Bool, true, false, List, [], ◌∷◌, Some, None, is_none, codes, Result, Ok, Err, refl, sym, ap, ◌∙◌}
+use Rattle.std.proofs.Common.{◌≡◌, ◌⊎◌, inl, inr, ℕ, Bool, true, false, List, [], ◌∷◌, Option, Some, None, is_none, option_and_then, unwrap_or, rules, codes, Result, Ok, Err, refl, sym, ap, ◌∙◌}
 use Rattle.std.proofs.lemmas.Bool.{and_parts, cases_Bool}
 use Rattle.std.specs.List.{list_all}
-use Rattle.mx_json.specs.declared.value.Json.{Json}
-use Rattle.mx_json.specs.Json.{is_valid, member}
+use Rattle.mx_json.specs.declared.value.Json.{Json, Null, the_lemmas}
+use Rattle.mx_json.specs.Json.{is_valid, member, text_at, text_of}
+use Rattle.mx_json.specs.Path.{look}
 use Rattle.mx_json.specs.Ids.{is_event_id, is_room_id, is_user_id}
 use Rattle.mx_event.specs.declared.error.EventError.{EventError}
 use Rattle.mx_event.specs.declared.error.EventError.TheVariants.{BadEvent, OutOfMemory}
 use Rattle.mx_event.specs.declared.error.EventField.{EventField}
 use Rattle.mx_event.specs.declared.error.EventField.TheVariants.{EventId, RoomId, Sender}
 use Rattle.mx_event.specs.declared.places.Places.{Places}
-use Rattle.mx_event.specs.Event.{ArePlacesIn, checked, event_id_of, fields_after_the_ids, fields_of, first_wrong, first_wrong_field, has_content, has_kind, HoldsEvent, is_event, read_event, room_id_of, sender_of}
+use Rattle.mx_event.specs.Event.{ArePlacesIn, body_of, checked, event_id_of, fields_after_the_ids, fields_of, first_wrong, first_wrong_field, has_content, has_kind, HoldsEvent, is_event, read_event, room_id_of, sender_of}
 
 -- what a tested field tells
 checked_right : {A : Type 0} (field : EventField) (is_right : Bool) (value found : A) → checked field is_right value ≡ Ok found → (is_right ≡ true) × (value ≡ found)
@@ -118,3 +119,15 @@ pub content-from_event : (json : Json) → is_event json ≡ true → member (co
 content-from_event json event none =
     let has = has_content-from_event json event in
     let never : false ≡ true = rw none at has in absurd cc
+
+-- the body of a message is the text at its path
+look_here : (found : Option Json) → option_and_then (look []) found ≡ found
+look_here None = refl
+look_here (Some json) = refl
+
+body_of-content : (content : Option Json) → option_and_then text_of (option_and_then (look (codes "body" ∷ [])) content) ≡ text_at (codes "body") (unwrap_or content Null)
+body_of-content None = search (rules, the_lemmas)
+body_of-content (Some content) = ap (option_and_then text_of) (look_here (member (codes "body") content))
+
+pub body_of-look : (json : Json) → option_and_then text_of (look (codes "content" ∷ codes "body" ∷ []) json) ≡ body_of json
+body_of-look json = body_of-content (member (codes "content") json)
