@@ -46,6 +46,7 @@ abbrev pub top_members : Json-F Json JsonList JsonObject → List Json
 top_members (Json-F.List list) = list.items
 top_members other = []
 
+-- the members of a value: those of a list, and none for any other
 abbrev pub members_of : Json → List Json
 members_of json = top_members (out-Json json)
 
