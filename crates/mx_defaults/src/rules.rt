@@ -78,8 +78,7 @@ fn read_condition(alloc: Global, owner: &str, asked: &Asked) -> Result<Condition
     requires { is_readable owner.now asked.now ≡ true }
     ensures { IfOk result (λ condition. condition ≡ condition_of owner.now asked.now) }
 {
-    let json = condition_of(alloc, owner, asked)?;
-    match Condition::from_json(alloc, &json) {
+    match Condition::read(alloc, condition_of(alloc, owner, asked)?) {
         Ok(condition) => Ok(condition),
         Err(ConditionError::OutOfMemory) => Err(OutOfMemory),
         Err(ConditionError::BadCondition) => unreachable!(),
