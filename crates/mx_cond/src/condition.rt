@@ -59,6 +59,20 @@ impl Condition {
         Ok(Condition { json, wanted })
     }
 
+    /// The condition that a JSON value is, as `from_json` reads it, of a value that is kept and not
+    /// copied.
+    ///
+    /// # Errors
+    ///
+    /// As `from_json`.
+    pub fn read(alloc: Global, json: Json) -> Result<Condition, ConditionError>
+        requires { is_valid json ≡ true }
+        ensures { Gives ConditionError.OutOfMemory result (read_condition json) }
+    {
+        let wanted = wanted_by(alloc, &json)?;
+        Ok(Condition { json, wanted })
+    }
+
     /// The value that it was read from.
     pub fn json(&self) -> &Json
         ensures whole { result.now ≡ self.now }
