@@ -2,7 +2,7 @@
 
 ghost use Rattle.std.specs.Prelude.{◌≡◌, [], ◌∷◌, map, codes, IfOk};
 ghost use Rattle.mx_json.specs.declared.value.Json.{Text, Object};
-ghost use Rattle.mx_defaults.specs.Row.{action_of, actions_of, condition_of};
+ghost use Rattle.mx_defaults.specs.Row.{action_done, actions_of, condition_of};
 
 use crate::row::{Asked, Does};
 use mx_json::{Json, JsonList, JsonObject, JsonText, OutOfMemory};
@@ -54,13 +54,13 @@ pub fn actions_of(alloc: Global, does: &[Does]) -> Result<JsonList, OutOfMemory>
 {
     let mut items = Items::new(alloc);
     for each in does {
-        items.push(action_of(alloc, each)?)?;
+        items.push(action_done(alloc, each)?)?;
     }
     Ok(JsonList { items })
 }
 
-fn action_of(alloc: Global, does: &Does) -> Result<Json, OutOfMemory>
-    ensures { IfOk result (λ json. json ≡ action_of does.now) }
+fn action_done(alloc: Global, does: &Does) -> Result<Json, OutOfMemory>
+    ensures { IfOk result (λ json. json ≡ action_done does.now) }
 {
     match *does {
         Does::Notify => text(alloc, "notify"),

@@ -3,7 +3,7 @@ use Rattle.mx_rule.specs.Editing.{without}
 use Rattle.mx_rule.specs.Rule.{PushRule}
 use Rattle.mx_rule.specs.Ruleset.{is_master}
 use Rattle.mx_edit.proofs.PlaceLemmas.{put_before-insert}
-use Rattle.mx_edit.proofs.lists.put_first.Goals as goal
+use Rattle.mx_edit.proofs.lists.put_first_own.Goals as goal
 
 pub returns : goal.returns
 returns c =

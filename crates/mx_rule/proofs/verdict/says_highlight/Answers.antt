@@ -2,7 +2,7 @@ use Rattle.std.proofs.Common.{arith, ap₂, sym, ◌∙◌}
 use Rattle.std.specs.Option.{option_or}
 use Rattle.mx_rule.specs.Actions.{highlight_in}
 use Rattle.mx_rule.proofs.ActionLemmas.{last_said-more}
-use Rattle.mx_rule.proofs.verdict.highlights.Goals as goal
+use Rattle.mx_rule.proofs.verdict.says_highlight.Goals as goal
 
 pub loop-action-preserved : goal.loop-action-preserved
 loop-action-preserved c =

@@ -1,4 +1,4 @@
-use Rattle.mx_defaults.proofs.values.action_of.Goals as goal
+use Rattle.mx_defaults.proofs.values.action_done.Goals as goal
 
 pub returns-in-Sound : goal.returns-in-Sound
 returns-in-Sound c = rw c.in-Sound.is c.texts.ensures
