@@ -87,7 +87,9 @@ fn find_by_first(
     None
 }
 
-/// The first place from `from` on and before `past` at which the character stands.
+/// The first place from `from` on and before `past` at which the character stands. It is kept apart
+/// from its caller, so that all that its loop needs stays in registers.
+#[inline(never)]
 fn next_place(
     wanted: char,
     value: &Folded,
@@ -104,11 +106,13 @@ fn next_place(
     let mut place = from;
     let mut found = None;
     while place < past {
-        if value.at(place, &mut counted) == Some(wanted) {
-            found = Some(place);
-            break;
+        match value.at(place, &mut counted) {
+            Some(here) if here == wanted => {
+                found = Some(place);
+                break;
+            }
+            _ => place += 1,
         }
-        place += 1;
     }
     *meter = counted;
     found
