@@ -25,6 +25,7 @@ impl Slot {
     }
 
     /// Whether it has this text.
+    #[inline]
     pub(crate) fn has(&self, text: &str) -> bool
         ensures { IsTrue result → self.now.folding ≡ folded text.now }
     {

@@ -2,7 +2,7 @@ use Rattle.std.proofs.Common.{◌≡◌, ◌+◌, ◌-◌, ℕ, ◌*◌, ◌<◌
 use Rattle.mx_json.specs.Folded.{RisesAtMost}
 use Rattle.mx_glob.specs.Leads.{IsWordPlace}
 use Rattle.mx_glob.specs.Words.{character_before}
-use Rattle.mx_glob.proofs.word.find_word.Given as goal
+use Rattle.mx_glob.proofs.word.find_at_each.Given as goal
 
 abbrev pub invariant-loop-here : goal.invariant-loop-here
 invariant-loop-here l =

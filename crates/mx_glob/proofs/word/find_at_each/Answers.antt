@@ -1,7 +1,7 @@
 use Rattle.std.proofs.Common.{◌∙◌, sym, arith}
 use Rattle.mx_glob.specs.Leads.{IsWordPlace}
 use Rattle.mx_glob.proofs.LeadsLemmas.{character_before-next, none_below_next}
-use Rattle.mx_glob.proofs.word.find_word.Goals as goal
+use Rattle.mx_glob.proofs.word.find_at_each.Goals as goal
 
 pub loop-here-preserved : goal.loop-here-preserved
 loop-here-preserved c =
