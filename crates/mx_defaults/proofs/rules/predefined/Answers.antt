@@ -28,7 +28,7 @@ returns c =
     let override : c.in_ok-override_rules.field-0 ≡ override_table c.args.user.now =
     c.in_ok-override_rules.ensures ∙ ap override_table c.as_text.ensures.text in
     let content : c.in_ok-content_rules.field-0
-        ≡ content_table (unwrap_or (localpart_of c.args.server.now c.args.user.now) []) =
+    ≡ content_table (unwrap_or (localpart_of c.args.server.now c.args.user.now) []) =
     c.in_ok-content_rules.ensures ∙ ap content_table localpart in
     let room : c.in_ok-of.field-0 ≡ none = c.in_ok-of.ensures ∙ c.new.ensures.items in
     let sender : c.in_ok-of-2.field-0 ≡ none = c.in_ok-of-2.ensures ∙ c.new-2.ensures.items in
