@@ -21,7 +21,7 @@ use Rattle.mx_defaults.specs.declared.row.Asked.{Asked}
 use Rattle.mx_defaults.specs.declared.row.Asked.TheVariants.{Matches, MatchesOwner, ContainsOwner, IsText, IsTrue, Members, MayNotifyRoom, NamesOwner}
 use Rattle.mx_defaults.specs.declared.row.Does.{Does}
 use Rattle.mx_defaults.specs.declared.row.Does.TheVariants.{Notify, Sound, Highlight}
-use Rattle.mx_defaults.specs.Row.{action_of, actions_of, are_sayable, condition_of, is_ascii_text, is_readable, is_sayable, is_short}
+use Rattle.mx_defaults.specs.Row.{action_done, actions_of, are_sayable, condition_of, is_ascii_text, is_readable, is_sayable, is_pattern_text}
 
 -- ---- validity
 
@@ -80,10 +80,10 @@ display_name-valid =
 
 pub condition_of-valid : (owner : List ℕ) (asked : Asked) → is_utf8 owner ≡ true → is_readable owner asked ≡ true → is_valid (condition_of owner asked) ≡ true
 condition_of-valid owner (Matches key pattern) utf8 is =
-    let parts = and_parts (is_ascii_text key.now) (is_ascii_text pattern.now) (and_parts (is_short pattern.now) _ is).1 in
+    let parts = and_parts (is_ascii_text key.now) (is_ascii_text pattern.now) (and_parts (is_pattern_text pattern.now) _ is).1 in
     match-valid key.now pattern.now parts.0 (is_utf8-ascii pattern.now parts.1)
 condition_of-valid owner (MatchesOwner key) utf8 is =
-    match-valid key.now owner (and_parts (is_short owner) (is_ascii_text key.now) is).1 utf8
+    match-valid key.now owner (and_parts (is_pattern_text owner) (is_ascii_text key.now) is).1 utf8
 condition_of-valid owner (ContainsOwner key) utf8 is = contains-valid key.now owner is utf8
 condition_of-valid owner (IsText key text) utf8 is =
     let parts = and_parts (is_ascii_text key.now) (is_ascii_text text.now) is in
@@ -103,7 +103,7 @@ highlight-valid =
     let has = one-has _ (member-ascii (codes "set_tweak") (codes "highlight") refl refl) in
     is_valid-Object _ refl has
 
-action_of-valid : (does : Does) → is_sayable does ≡ true → is_valid (action_of does) ≡ true
+action_of-valid : (does : Does) → is_sayable does ≡ true → is_valid (action_done does) ≡ true
 action_of-valid Notify is = is_valid-ascii (codes "notify") refl
 action_of-valid (Sound name) is = sound-valid name.now is
 action_of-valid Highlight is = highlight-valid
@@ -112,13 +112,13 @@ pub actions_of-valid : (does : List Does) → are_sayable does ≡ true → list
 actions_of-valid [] is = refl
 actions_of-valid (first ∷ does) is =
     let parts = and_parts (is_sayable first) (are_sayable does) is in
-    and_from (is_valid (action_of first)) (list_all is_valid (actions_of does)) (action_of-valid first parts.0) (actions_of-valid does parts.1)
+    and_from (is_valid (action_done first)) (list_all is_valid (actions_of does)) (action_of-valid first parts.0) (actions_of-valid does parts.1)
 
 not-true : (b : Bool) → not b ≡ true → b ≡ false
 not-true false h = refl
 not-true true h = cc
 
-short : (text : List ℕ) → is_short text ≡ true → nat_lt 1024 (length text) ≡ false
+short : (text : List ℕ) → is_pattern_text text ≡ true → nat_lt 1024 (length text) ≡ false
 short text is = not-true _ is
 
 -- the members of an object
@@ -141,7 +141,7 @@ unfolding wanted_by
 wanted_by-kind pairs kind is =
     ap (option_and_then (λ kind. wanted_of_kind kind (Object record { pairs = pairs }))) (text_at-is (codes "kind") pairs kind is)
 
-event_match-is : (key pattern : List ℕ) → is_short pattern ≡ true → is_condition (event_match key pattern) ≡ true
+event_match-is : (key pattern : List ℕ) → is_pattern_text pattern ≡ true → is_condition (event_match key pattern) ≡ true
 unfolding wanted_of_kind
 event_match-is key pattern is =
     let pairs : List (List ℕ × Json) = (codes "key", Text key) ∷ (codes "kind", Text (codes "event_match")) ∷ (codes "pattern", Text pattern) ∷ [] in
@@ -190,8 +190,8 @@ plain-true : plain_of (Truth true) ≡ Some (PlainTruth true)
 plain-true = search (rules, the_lemmas)
 
 pub condition_of-is : (owner : List ℕ) (asked : Asked) → is_readable owner asked ≡ true → is_condition (condition_of owner asked) ≡ true
-condition_of-is owner (Matches key pattern) readable = event_match-is key.now pattern.now (and_parts (is_short pattern.now) _ readable).0
-condition_of-is owner (MatchesOwner key) readable = event_match-is key.now owner (and_parts (is_short owner) _ readable).0
+condition_of-is owner (Matches key pattern) readable = event_match-is key.now pattern.now (and_parts (is_pattern_text pattern.now) _ readable).0
+condition_of-is owner (MatchesOwner key) readable = event_match-is key.now owner (and_parts (is_pattern_text owner) _ readable).0
 condition_of-is owner (ContainsOwner key) readable = property_contains-is key.now (Text owner) (PlainText owner) (plain-text owner)
 condition_of-is owner (IsText key text) readable = property_is-is key.now (Text text.now) (PlainText text.now) (plain-text text.now)
 condition_of-is owner (IsTrue key) readable = property_is-is key.now (Truth true) (PlainTruth true) plain-true

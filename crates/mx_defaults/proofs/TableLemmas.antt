@@ -3,9 +3,9 @@ use Rattle.std.proofs.Common.{◌≡◌, ℕ, ◌+◌, ◌-◌, ◌≤◌, nat_l
 use Rattle.std.specs.Str.{bytes_eq}
 use Rattle.std.proofs.lemmas.Bool.{and_parts, leb-true, le-ltb}
 use Rattle.mx_json.specs.Ids.{begins_with, at_sign, colon, has_length_of_an_id, holds_byte, is_localpart, is_user_id, local_user, localpart_of, part_before}
-use Rattle.mx_defaults.specs.Row.{is_short}
+use Rattle.mx_defaults.specs.Row.{is_pattern_text}
 
-pub is_short-from_length : (text : List ℕ) → length text ≤ 1024 → is_short text ≡ true
+pub is_short-from_length : (text : List ℕ) → length text ≤ 1024 → is_pattern_text text ≡ true
 is_short-from_length text within = ap not (le-ltb 1024 (length text) within)
 
 pub length-user_id : (id : List ℕ) → is_user_id id ≡ true → length id ≤ 255

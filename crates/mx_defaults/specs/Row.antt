@@ -23,16 +23,18 @@ condition_of owner MayNotifyRoom = may_notify_room
 condition_of owner NamesOwner = contains_display_name
 
 -- an action of the table
-abbrev pub action_of : Does → Json
-action_of Notify = notify
-action_of (Sound name) = sound name.now
-action_of Highlight = highlight
+abbrev pub action_done : Does → Json
+action_done Notify = notify
+action_done (Sound name) = sound name.now
+action_done Highlight = highlight
 
-abbrev pub conditions_of : List ℕ → List Asked → List Json
-conditions_of owner asks = map (condition_of owner) asks
+-- the conditions of a row, for this owner
+abbrev pub conditions_asked : List ℕ → List Asked → List Json
+conditions_asked owner asks = map (condition_of owner) asks
 
+-- the actions of a row
 abbrev pub actions_of : List Does → List Json
-actions_of does = map action_of does
+actions_of does = map action_done does
 
 -- the rule of a row
 abbrev pub rule_of : List ℕ → Row → PushRule
@@ -41,12 +43,12 @@ rule_of owner row = record {
   predefined = true;
   enabled = row.enabled;
   actions = actions_of row.does.now;
-  criterion = Conditions (conditions_of owner row.asks.now);
+  criterion = Conditions (conditions_asked owner row.asks.now);
 }
 
 -- a text can be a pattern
-abbrev pub is_short : List ℕ → Bool
-is_short text = not (nat_lt 1024 (length text))
+abbrev pub is_pattern_text : List ℕ → Bool
+is_pattern_text text = not (nat_lt 1024 (length text))
 
 -- a text of the table is ASCII
 abbrev pub is_ascii_text : List ℕ → Bool
@@ -54,8 +56,8 @@ is_ascii_text text = list_all (λ byte. nat_lt byte 128) text
 
 -- the texts of a condition are ASCII, its patterns can be patterns, and so can the owner's id where it asks for it
 abbrev pub is_readable : List ℕ → Asked → Bool
-is_readable owner (Matches key pattern) = is_short pattern.now && (is_ascii_text key.now && is_ascii_text pattern.now)
-is_readable owner (MatchesOwner key) = is_short owner && is_ascii_text key.now
+is_readable owner (Matches key pattern) = is_pattern_text pattern.now && (is_ascii_text key.now && is_ascii_text pattern.now)
+is_readable owner (MatchesOwner key) = is_pattern_text owner && is_ascii_text key.now
 is_readable owner (ContainsOwner key) = is_ascii_text key.now
 is_readable owner (IsText key text) = is_ascii_text key.now && is_ascii_text text.now
 is_readable owner (IsTrue key) = is_ascii_text key.now
@@ -67,8 +69,10 @@ abbrev pub is_sayable : Does → Bool
 is_sayable (Sound name) = is_ascii_text name.now
 is_sayable other = true
 
+-- the texts of all these actions are ASCII
 abbrev pub are_sayable : List Does → Bool
 are_sayable does = list_all is_sayable does
 
+-- all that a row asks and does can be read
 abbrev pub is_readable_row : List ℕ → Row → Bool
 is_readable_row owner row = list_all (is_readable owner) row.asks.now && are_sayable row.does.now

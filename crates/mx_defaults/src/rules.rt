@@ -1,8 +1,8 @@
 ghost use Rattle.std.specs.Prelude.{◌≡◌, true, map, IfOk, IsSome};
 ghost use Rattle.std.specs.List.{list_all};
 ghost use Rattle.mx_json.specs.Ids.{localpart_of};
-ghost use Rattle.mx_rule.specs.Predefined.{content_table, localpart_rule, predefined_rules};
-ghost use Rattle.mx_defaults.specs.Row.{actions_of, are_sayable, condition_of, conditions_of, is_readable, is_readable_row, is_short, rule_of};
+ghost use Rattle.mx_rule.specs.Predefined.{content_table, localpart_rule, override_table, predefined_rules, underride_table};
+ghost use Rattle.mx_defaults.specs.Row.{actions_of, are_sayable, condition_of, conditions_asked, is_readable, is_readable_row, is_pattern_text, rule_of};
 
 use crate::row::{Asked, Does, Row};
 use crate::table::{CONTENT_DOES, CONTENT_ID, OVERRIDE, UNDERRIDE};
@@ -27,12 +27,25 @@ pub fn predefined(alloc: Global, user: &UserId, server: &str) -> Result<Ruleset,
         unreachable!()
     };
     Ok(Ruleset::of(
-        RuleList::of(alloc, rules_of(alloc, user.as_text(), &OVERRIDE)?)?,
-        RuleList::of(alloc, content_rules(alloc, localpart)?)?,
+        override_rules(alloc, user.as_text())?,
+        content_rules(alloc, localpart)?,
         RuleList::of(alloc, Vec::new(alloc))?,
         RuleList::of(alloc, Vec::new(alloc))?,
-        RuleList::of(alloc, rules_of(alloc, user.as_text(), &UNDERRIDE)?)?,
+        underride_rules(alloc, user.as_text())?,
     ))
+}
+
+fn override_rules(alloc: Global, owner: &str) -> Result<RuleList, OutOfMemory>
+    requires { is_pattern_text owner.now ≡ true }
+    ensures { IfOk result (λ rules. rules ≡ override_table owner.now) }
+{
+    RuleList::of(alloc, rules_of(alloc, owner, &OVERRIDE)?)
+}
+
+fn underride_rules(alloc: Global, owner: &str) -> Result<RuleList, OutOfMemory>
+    ensures { IfOk result (λ rules. rules ≡ underride_table) }
+{
+    RuleList::of(alloc, rules_of(alloc, owner, &UNDERRIDE)?)
 }
 
 fn rules_of(alloc: Global, owner: &str, rows: &[Row]) -> Result<Vec<Rule>, OutOfMemory>
@@ -55,17 +68,17 @@ fn rule_of(alloc: Global, owner: &str, row: &Row) -> Result<Rule, OutOfMemory>
         true,
         row.enabled,
         read_actions(alloc, row.does)?,
-        Criterion::Conditions(conditions_of(alloc, owner, row.asks)?),
+        Criterion::Conditions(conditions_asked(alloc, owner, row.asks)?),
     ))
 }
 
-fn conditions_of(
+fn conditions_asked(
     alloc: Global,
     owner: &str,
     asks: &[Asked],
 ) -> Result<Items<Condition>, OutOfMemory>
     requires { list_all (is_readable owner.now) asks.now ≡ true }
-    ensures { IfOk result (λ conditions. conditions ≡ conditions_of owner.now asks.now) }
+    ensures { IfOk result (λ conditions. conditions ≡ conditions_asked owner.now asks.now) }
 {
     let mut conditions = Items::new(alloc);
     for asked in asks {
@@ -79,7 +92,7 @@ fn read_condition(alloc: Global, owner: &str, asked: &Asked) -> Result<Condition
     ensures { IfOk result (λ condition. condition ≡ condition_of owner.now asked.now) }
 {
     let json = condition_of(alloc, owner, asked)?;
-    match Condition::from_json(alloc, &json) {
+    match Condition::read(alloc, json) {
         Ok(condition) => Ok(condition),
         Err(ConditionError::OutOfMemory) => Err(OutOfMemory),
         Err(ConditionError::BadCondition) => unreachable!(),
@@ -93,18 +106,16 @@ fn read_actions(alloc: Global, does: &[Does]) -> Result<Actions, OutOfMemory>
     Actions::read(alloc, actions_of(alloc, does)?)
 }
 
-fn content_rules(alloc: Global, localpart: &str) -> Result<Vec<Rule>, OutOfMemory>
-    requires { is_short localpart.now ≡ true }
-    ensures { IfOk result (λ rules. rules.items ≡ content_table localpart.now) }
+fn content_rules(alloc: Global, localpart: &str) -> Result<RuleList, OutOfMemory>
+    requires { is_pattern_text localpart.now ≡ true }
+    ensures { IfOk result (λ rules. rules ≡ content_table localpart.now) }
 {
     let rule = localpart_rule(alloc, localpart)?;
-    let mut rules = Vec::with_capacity(alloc, 1)?;
-    rules.push(rule)?;
-    Ok(rules)
+    RuleList::of(alloc, vec![in alloc; rule]?)
 }
 
 fn localpart_rule(alloc: Global, localpart: &str) -> Result<Rule, OutOfMemory>
-    requires { is_short localpart.now ≡ true }
+    requires { is_pattern_text localpart.now ≡ true }
     ensures { IfOk result (λ rule. rule ≡ localpart_rule localpart.now) }
 {
     Ok(Rule::new(
@@ -117,7 +128,7 @@ fn localpart_rule(alloc: Global, localpart: &str) -> Result<Rule, OutOfMemory>
 }
 
 fn read_pattern(alloc: Global, localpart: &str) -> Result<Pattern, OutOfMemory>
-    requires { is_short localpart.now ≡ true }
+    requires { is_pattern_text localpart.now ≡ true }
     ensures { IfOk result (λ pattern. pattern ≡ localpart.now) }
 {
     match Pattern::read(alloc, localpart) {

@@ -1,8 +1,9 @@
 //! The JSON of the table's conditions and actions.
 
-ghost use Rattle.std.specs.Prelude.{◌≡◌, [], ◌∷◌, map, codes, IfOk};
-ghost use Rattle.mx_json.specs.declared.value.Json.{Text, Object};
-ghost use Rattle.mx_defaults.specs.Row.{action_of, actions_of, condition_of};
+ghost use Rattle.std.specs.Prelude.{◌≡◌, true, map, IfOk};
+ghost use Rattle.mx_json.specs.declared.value.Json.{Text, Truth, Object};
+ghost use Rattle.mx_rule.specs.Predefined.{event_property_is};
+ghost use Rattle.mx_defaults.specs.Row.{action_done, actions_of, condition_of};
 
 use crate::row::{Asked, Does};
 use mx_json::{Json, JsonList, JsonObject, JsonText, OutOfMemory};
@@ -14,32 +15,32 @@ pub fn condition_of(alloc: Global, owner: &str, asked: &Asked) -> Result<Json, O
     ensures { IfOk result (λ json. json ≡ condition_of owner.now asked.now) }
 {
     match *asked {
-        Asked::Matches(key, pattern) => {
-            keyed(alloc, key, "event_match", "pattern", text(alloc, pattern)?)
-        }
-        Asked::MatchesOwner(key) => {
-            keyed(alloc, key, "event_match", "pattern", text(alloc, owner)?)
-        }
-        Asked::ContainsOwner(key) => {
-            keyed(
-                alloc,
-                key,
-                "event_property_contains",
-                "value",
-                text(alloc, owner)?,
-            )
-        }
-        Asked::IsText(key, value) => {
-            keyed(
-                alloc,
-                key,
-                "event_property_is",
-                "value",
-                text(alloc, value)?,
-            )
-        }
-        Asked::IsTrue(key) => { keyed(alloc, key, "event_property_is", "value", Json::Truth(true)) }
-        Asked::Members(number) => { texts(alloc, &[("is", number), ("kind", "room_member_count")]) }
+        Asked::Matches(key, pattern) => texts(
+            alloc,
+            &[("key", key), ("kind", "event_match"), ("pattern", pattern)],
+        ),
+        Asked::MatchesOwner(key) => texts(
+            alloc,
+            &[("key", key), ("kind", "event_match"), ("pattern", owner)],
+        ),
+        Asked::ContainsOwner(key) => texts(
+            alloc,
+            &[
+                ("key", key),
+                ("kind", "event_property_contains"),
+                ("value", owner),
+            ],
+        ),
+        Asked::IsText(key, value) => texts(
+            alloc,
+            &[
+                ("key", key),
+                ("kind", "event_property_is"),
+                ("value", value),
+            ],
+        ),
+        Asked::IsTrue(key) => property_is_true(alloc, key),
+        Asked::Members(number) => texts(alloc, &[("is", number), ("kind", "room_member_count")]),
         Asked::MayNotifyRoom => texts(
             alloc,
             &[("key", "room"), ("kind", "sender_notification_permission")],
@@ -54,13 +55,13 @@ pub fn actions_of(alloc: Global, does: &[Does]) -> Result<JsonList, OutOfMemory>
 {
     let mut items = Items::new(alloc);
     for each in does {
-        items.push(action_of(alloc, each)?)?;
+        items.push(action_done(alloc, each)?)?;
     }
     Ok(JsonList { items })
 }
 
-fn action_of(alloc: Global, does: &Does) -> Result<Json, OutOfMemory>
-    ensures { IfOk result (λ json. json ≡ action_of does.now) }
+fn action_done(alloc: Global, does: &Does) -> Result<Json, OutOfMemory>
+    ensures { IfOk result (λ json. json ≡ action_done does.now) }
 {
     match *does {
         Does::Notify => text(alloc, "notify"),
@@ -75,30 +76,27 @@ fn text(alloc: Global, text: &str) -> Result<Json, OutOfMemory>
     Ok(Json::Text(JsonText::read(alloc, text)?))
 }
 
-// An object of a key, a kind and one more member.
-fn keyed(alloc: Global, key: &str, kind: &str, name: &str, value: Json) -> Result<Json, OutOfMemory>
-    ensures { IfOk result (λ json. json ≡ Object record {
-      pairs =
-          (codes "key", Text key.now) ∷ (codes "kind", Text kind.now) ∷ (name.now, value) ∷ [];
-    }) }
+fn property_is_true(alloc: Global, key: &str) -> Result<Json, OutOfMemory>
+    ensures { IfOk result (λ json. json ≡ event_property_is key.now (Truth true)) }
 {
-    let object = JsonObject::new(alloc)
-        .with(alloc, "key", text(alloc, key)?)?
-        .with(alloc, "kind", text(alloc, kind)?)?
-        .with(alloc, name, value)?;
-    Ok(Json::Object(object))
+    let object = object_of(alloc, &[("key", key), ("kind", "event_property_is")])?;
+    Ok(Json::Object(object.with(alloc, "value", Json::Truth(true))?))
+}
+
+// A value that is an object of texts.
+fn texts(alloc: Global, members: &[(&str, &str)]) -> Result<Json, OutOfMemory>
+    ensures { IfOk result (λ json. json ≡ Object record { pairs = map (λ member. (member.0.now, Text member.1.now)) members.now }) }
+{
+    Ok(Json::Object(object_of(alloc, members)?))
 }
 
 // An object whose members are texts.
-fn texts(alloc: Global, members: &[(&str, &str)]) -> Result<Json, OutOfMemory>
-    ensures { IfOk result (λ json. json ≡ Object record {
-      pairs =
-          map (λ member. (member.0.now, Text member.1.now)) members.now;
-    }) }
+fn object_of(alloc: Global, members: &[(&str, &str)]) -> Result<JsonObject, OutOfMemory>
+    ensures { IfOk result (λ object. object.pairs ≡ map (λ member. (member.0.now, Text member.1.now)) members.now) }
 {
     let mut object = JsonObject::new(alloc);
     for (key, value) in members {
         object = object.with(alloc, key, text(alloc, value)?)?;
     }
-    Ok(Json::Object(object))
+    Ok(object)
 }

@@ -3,7 +3,7 @@ use Rattle.std.proofs.Common.{◌≡◌, ℕ, ◌+◌, add-one, Bool, true, fals
 use Rattle.std.specs.Option.{option_map_or}
 use Rattle.std.proofs.lemmas.Bool.{cond-false, cond-true}
 use Rattle.mx_rule.specs.declared.kind.Kind.{Kind}
-use Rattle.mx_rule.specs.Editing.{is_own_with, put_after, put_before, put_by_itself, put_first, put_over, without}
+use Rattle.mx_rule.specs.Editing.{is_own_with, put_after, put_before, put_by_itself, put_first_own, put_over, without}
 use Rattle.mx_rule.specs.Rule.{PushRule}
 use Rattle.mx_rule.proofs.ChangeLemmas.{found-at, here, is_some-position, later, position-cons}
 
@@ -60,7 +60,7 @@ put_by_itself-there kind new rules i at =
 
 -- and a new one is the first of the user's
 pub put_by_itself-new : (kind : Kind) (new : PushRule) (rules : List PushRule)
-    → position (is_own_with kind new.id) rules ≡ None → put_first kind new (without new.id rules)
+    → position (is_own_with kind new.id) rules ≡ None → put_first_own kind new (without new.id rules)
     ≡ put_by_itself kind new rules
 put_by_itself-new kind new rules none =
     sym (cond-false _ _ _ (is_some-position (is_own_with kind new.id) rules ∙ ap is_some none))

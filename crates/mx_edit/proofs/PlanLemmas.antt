@@ -9,7 +9,7 @@ use Rattle.mx_rule.specs.declared.edit.EditRefusal.TheVariants.{RuleReserved, Ba
 use Rattle.mx_rule.specs.declared.edit.Part.TheVariants as part
 use Rattle.mx_rule.specs.declared.kind.Kind.{Kind}
 use Rattle.mx_rule.specs.declared.list_change.ListChange.{ListChange}
-use Rattle.mx_rule.specs.Editing.{are_actions, are_conditions_for, changed, edited, edited_kind, edited_list, is_id_for, is_pattern_for, is_reserved, is_unfit, refusal_of_absence, refusal_of_edit, refusal_of_place, with_list}
+use Rattle.mx_rule.specs.Editing.{are_actions, are_conditions_for, list_changed, edited, edited_kind, edited_list, is_id_for, is_pattern_for, is_reserved, is_unfit, refusal_of_absence, refusal_of_edit, refusal_of_place, with_list}
 use Rattle.mx_rule.specs.Ruleset.{PushRuleset, are_rules_of, rules_of_kind}
 use Rattle.mx_rule.proofs.EditedLemmas.{edited_list-are}
 use Rattle.mx_edit.specs.declared.error.EditError.{EditError}
@@ -21,7 +21,7 @@ use Rattle.mx_edit.specs.Planning.{is_made_for, planned, refusal_of_actions, ref
 -- what makes of its kind's rules what the edit makes of them is its plan
 pub IsPlanOf-by : (rules : PushRuleset) (edit : Edit) (change : ListChange) → refusal_of_edit rules edit ≡ None
     → are_rules_of (edited_kind edit) (rules_of_kind (edited_kind edit) rules) ≡ true
-    → changed change (rules_of_kind (edited_kind edit) rules)
+    → list_changed change (rules_of_kind (edited_kind edit) rules)
     ≡ edited_list edit (rules_of_kind (edited_kind edit) rules)
     → IsPlanOf edit rules (record { kind = edited_kind edit; change = change })
 unfolding is_made_for planned edited

@@ -1,17 +1,17 @@
 -- What a loop over rules or values has still to see, and what one step says of it.
-use Rattle.std.proofs.Common.{◌≡◌, ℕ, ◌+◌, ◌-◌, ◌<◌, ◌≤◌, Bool, true, false, cond, ◌&&◌, List, ◌∷◌, length, get_or, drop, count_by, Some, None, inl, inr, refl, sym, ap, ◌∙◌, arith}
+use Rattle.std.proofs.Common.{◌≡◌, ℕ, ◌+◌, ◌-◌, ◌<◌, ◌≤◌, Bool, true, false, cond, ◌&&◌, List, ◌∷◌, length, get_or, drop, Some, None, inl, inr, refl, sym, ap, ◌∙◌, arith}
 use Rattle.std.specs.List.{list_all}
 use Rattle.std.proofs.lemmas.List.{at_drop_more}
 use Rattle.mx_rule.specs.declared.kind.Kind.{Kind}
 use Rattle.mx_rule.specs.Editing.{flag_of, has_id}
 use Rattle.mx_rule.specs.Rule.{PushRule}
-use Rattle.mx_rule.specs.Ruleset.{PushRuleset, is_own, rules_of_kind}
+use Rattle.mx_rule.specs.Ruleset.{PushRuleset, own_among, rules_of_kind}
 use Rattle.mx_edit.specs.declared.error.EditError.{EditError}
 use Rattle.mx_edit.specs.Planning.{refusal_unless, Tells}
 
 -- how many rules of a kind the user made
 abbrev pub own_of : PushRuleset → Kind → ℕ
-own_of rules kind = count_by (is_own kind) (rules_of_kind kind rules)
+own_of rules kind = own_among kind (rules_of_kind kind rules)
 
 -- all that are left pass where this one passes and all after it
 pub all_step : {X : Type 0} (p : X → Bool) (xs : List X) (i : ℕ) (x : X) → i < length xs → x ≡ get_or xs i x

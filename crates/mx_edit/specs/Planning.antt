@@ -10,7 +10,7 @@ use Rattle.mx_rule.specs.declared.edit.EditRefusal.{EditRefusal}
 use Rattle.mx_rule.specs.declared.edit.EditRefusal.TheVariants.{RuleReserved, BadRule}
 use Rattle.mx_rule.specs.declared.edit.Part.TheVariants as part
 use Rattle.mx_rule.specs.declared.kind.Kind.{Kind}
-use Rattle.mx_rule.specs.Editing.{are_actions, are_conditions, are_conditions_for, changed, criterion_of, edited, is_id_for, is_pattern_for, is_unfit, is_valid_edit, with_list}
+use Rattle.mx_rule.specs.Editing.{are_actions, are_conditions, are_conditions_for, list_changed, criterion_of, edited, is_id_for, is_pattern_for, is_unfit, is_valid_edit, with_list}
 use Rattle.mx_rule.specs.Rule.{PushRule}
 use Rattle.mx_rule.specs.Ruleset.{PushRuleset, are_rules_of, rules_of_kind}
 use Rattle.mx_edit.specs.declared.error.EditError.{EditError}
@@ -22,7 +22,7 @@ use Rattle.mx_edit.specs.declared.put.Put.{Put}
 
 -- what a plan makes of the rules of its kind
 abbrev pub planned_list : EditPlan → PushRuleset → List PushRule
-planned_list plan rules = changed plan.change (rules_of_kind plan.kind rules)
+planned_list plan rules = list_changed plan.change (rules_of_kind plan.kind rules)
 
 -- what a plan makes of a user's rules
 unfoldable pub planned : EditPlan → PushRuleset → PushRuleset
@@ -48,10 +48,12 @@ Tries refusal P result = MatchResult result (λ value. (refusal ≡ None) × P v
 
 -- ---- the refusals of a put, step by step; for private clauses
 
+-- why a rule of this kind can't have this id
 abbrev pub refusal_of_id : Kind → List ℕ → Option EditRefusal
 refusal_of_id kind id =
     if is_unfit id then Some RuleReserved else (if not (is_id_for kind id) then Some (BadRule part.RuleId) else None)
 
+-- why a rule of this kind can't ask this
 abbrev pub refusal_of_criterion : Kind → Option (List ℕ) → Option JsonList → Option EditRefusal
 refusal_of_criterion kind pattern conditions =
     if not (is_pattern_for kind pattern) then Some (BadRule part.Pattern)
@@ -61,12 +63,15 @@ refusal_of_criterion kind pattern conditions =
 abbrev pub refusal_unless : Bool → Option EditRefusal
 refusal_unless holds = if not holds then Some (BadRule part.Conditions) else None
 
+-- why not each of these values can be a condition
 abbrev pub refusal_of_each : List Json → Option EditRefusal
 refusal_of_each given = refusal_unless (list_all is_condition given)
 
+-- why these can't be the conditions of a rule
 abbrev pub refusal_of_conditions : List Json → Option EditRefusal
 refusal_of_conditions given = refusal_unless (are_conditions given)
 
+-- why these can't be the actions of a rule
 abbrev pub refusal_of_actions : List Json → Option EditRefusal
 refusal_of_actions given = if not (are_actions given) then Some (BadRule part.Actions) else None
 

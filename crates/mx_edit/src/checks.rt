@@ -1,13 +1,13 @@
 //! What an edit is tested for, part by part.
 
-ghost use Rattle.std.specs.Prelude.{◌≡◌, true, None, Some, IfSome, MatchResult, length, position, sum_by, count_by, nat_lt};
+ghost use Rattle.std.specs.Prelude.{◌≡◌, true, None, Some, IfSome, MatchResult, length, position, nat_lt};
 ghost use Rattle.std.specs.List.{list_all, list_any};
 ghost use Rattle.std.specs.Option.{option_copied};
 ghost use Rattle.mx_json.specs.Ids.{holds_byte};
 ghost use Rattle.mx_json.specs.Json.{is_valid};
 ghost use Rattle.mx_edit.specs.Planning.{refusal_of_actions, refusal_of_id};
 ghost use Rattle.mx_rule.specs.Editing.{are_actions, has_id, has_room, is_action, is_action_word, is_anchor, is_anchored, is_id_for, is_own_with, is_reserved, is_unfit, own_count, refusal_of_absence, refusal_of_place};
-ghost use Rattle.mx_rule.specs.Ruleset.{are_rules_of, is_own, rules_of_kind};
+ghost use Rattle.mx_rule.specs.Ruleset.{are_rules_of, rules_of_kind};
 
 use mx_json::{Json, JsonList, JsonText, is_room_id, is_user_id};
 use mx_rule::{EditRefusal, Kind, Part, Rule, Ruleset};
@@ -148,19 +148,13 @@ fn is_anchored(
     }
 }
 
-fn own_count_of(rules: &[Rule], kind: Kind) -> usize
-    ensures { result ≡ count_by (is_own kind) rules.now }
-{
-    rules.iter().filter(|rule| rule.is_own(kind)).count()
-}
-
 // Whether the user made fewer rules than a user may.
 fn are_few(rules: &Ruleset) -> bool
     ensures { result ≡ nat_lt (own_count rules.now) 1000 }
 {
     let mut left = MOST_RULES;
     for kind in Kind::BY_IMPORTANCE {
-        let count = own_count_of(rules.rules(kind), kind);
+        let count = rules.own_count(kind);
         if left <= count {
             return false;
         }

@@ -2,7 +2,7 @@
 
 ghost use Rattle.std.specs.Prelude.{◌≡◌, ◌+◌, ◌<◌, ◌≤◌, not, length, position, slice_set, IfOk, IfSome};
 ghost use Rattle.std.specs.Option.{option_map_or};
-ghost use Rattle.mx_rule.specs.Editing.{is_own_with, put_after, put_before, put_by_itself, put_first, with_put, without};
+ghost use Rattle.mx_rule.specs.Editing.{is_own_with, put_after, put_before, put_by_itself, put_first_own, with_put, without};
 ghost use Rattle.mx_rule.specs.Ruleset.{is_master};
 
 use crate::checks::is_own_with;
@@ -70,12 +70,12 @@ fn put_by_itself(
 {
     match place_of_own(rules, kind, new.id()) {
         Some(place) => put_at(alloc, rules, place, new),
-        None => put_first(alloc, rules, kind, new),
+        None => put_first_own(alloc, rules, kind, new),
     }
 }
 
-fn put_first(alloc: Global, rules: &[Rule], kind: Kind, new: Rule) -> Result<Vec<Rule>, OutOfMemory>
-    ensures { IfOk result (λ list. list.items ≡ put_first kind new (without new.id rules.now)) }
+fn put_first_own(alloc: Global, rules: &[Rule], kind: Kind, new: Rule) -> Result<Vec<Rule>, OutOfMemory>
+    ensures { IfOk result (λ list. list.items ≡ put_first_own kind new (without new.id rules.now)) }
 {
     let mut list = others(alloc, rules, new.id())?;
     let place = place_past_master(&list, kind).unwrap_or(list.len());

@@ -1,15 +1,17 @@
 -- How the fields of an event, tested one by one, make it one.
-use Rattle.std.proofs.Common.{◌≡◌, ◌⊎◌, inl, inr, ℕ, Bool, true, false, List, [], ◌∷◌, Some, None, is_none, codes, Result, Ok, Err, refl, sym, ap, ◌∙◌}
+use Rattle.std.proofs.Common.{◌≡◌, ◌⊎◌, inl, inr, ℕ, Bool, true, false, List, [], ◌∷◌, Option, Some, None, is_none, option_and_then, unwrap_or, rules, codes, Result, Ok, Err, refl, sym, ap, ◌∙◌}
 use Rattle.std.proofs.lemmas.Bool.{and_parts, cases_Bool}
 use Rattle.std.specs.List.{list_all}
-use Rattle.mx_json.specs.declared.value.Json.{Json}
-use Rattle.mx_json.specs.Json.{is_valid, member}
+use Rattle.mx_json.specs.declared.value.Json.{Json, Null, the_lemmas}
+use Rattle.mx_json.specs.Json.{is_valid, member, text_at, text_of}
+use Rattle.mx_json.specs.Path.{look}
 use Rattle.mx_json.specs.Ids.{is_event_id, is_room_id, is_user_id}
 use Rattle.mx_event.specs.declared.error.EventError.{EventError}
 use Rattle.mx_event.specs.declared.error.EventError.TheVariants.{BadEvent, OutOfMemory}
 use Rattle.mx_event.specs.declared.error.EventField.{EventField}
 use Rattle.mx_event.specs.declared.error.EventField.TheVariants.{EventId, RoomId, Sender}
-use Rattle.mx_event.specs.Event.{checked, event_id_of, fields_after_the_ids, fields_of, first_wrong, first_wrong_field, has_content, has_kind, HoldsEvent, is_event, read_event, room_id_of, sender_of}
+use Rattle.mx_event.specs.declared.places.Places.{Places}
+use Rattle.mx_event.specs.Event.{ArePlacesIn, body_of, checked, event_id_of, fields_after_the_ids, fields_of, first_wrong, first_wrong_field, has_content, has_kind, HoldsEvent, is_event, read_event, room_id_of, sender_of}
 
 -- what a tested field tells
 checked_right : {A : Type 0} (field : EventField) (is_right : Bool) (value found : A) → checked field is_right value ≡ Ok found → (is_right ≡ true) × (value ≡ found)
@@ -80,8 +82,8 @@ pub read_event-right : (json : Json) (event_id room_id sender : List ℕ) → Ha
 read_event-right json event_id room_id sender ids is =
     rw (first_wrong_field-after_the_ids json event_id room_id sender ids, ← is)
 
-pub HoldsEvent-from : (json : Json) (event_id room_id sender : List ℕ) → is_valid json ≡ true → HasIds json event_id room_id sender → None ≡ first_wrong (fields_after_the_ids json) → HoldsEvent json event_id room_id sender
-HoldsEvent-from json event_id room_id sender valid ids is =
+pub HoldsEvent-from : (json : Json) (event_id room_id sender : List ℕ) (places : Places) → is_valid json ≡ true → HasIds json event_id room_id sender → None ≡ first_wrong (fields_after_the_ids json) → ArePlacesIn json places → HoldsEvent json event_id room_id sender places
+HoldsEvent-from json event_id room_id sender places valid ids is placed =
     let right = checked_right EventId (is_event_id (event_id_of json)) (event_id_of json) event_id ids.event in
     let right_2 = checked_right RoomId (is_room_id (room_id_of json)) (room_id_of json) room_id ids.room in
     let right_3 = checked_right Sender (is_user_id (sender_of json)) (sender_of json) sender ids.from in
@@ -91,6 +93,7 @@ HoldsEvent-from json event_id room_id sender valid ids is =
       event_id_is = sym right.1;
       room_id_is = sym right_2.1;
       sender_is = sym right_3.1;
+      places_are = placed;
     }
 
 -- an event has a content
@@ -116,3 +119,15 @@ pub content-from_event : (json : Json) → is_event json ≡ true → member (co
 content-from_event json event none =
     let has = has_content-from_event json event in
     let never : false ≡ true = rw none at has in absurd cc
+
+-- the body of a message is the text at its path
+look_here : (found : Option Json) → option_and_then (look []) found ≡ found
+look_here None = refl
+look_here (Some json) = refl
+
+body_of-content : (content : Option Json) → option_and_then text_of (option_and_then (look (codes "body" ∷ [])) content) ≡ text_at (codes "body") (unwrap_or content Null)
+body_of-content None = search (rules, the_lemmas)
+body_of-content (Some content) = ap (option_and_then text_of) (look_here (member (codes "body") content))
+
+pub body_of-look : (json : Json) → option_and_then text_of (look (codes "content" ∷ codes "body" ∷ []) json) ≡ body_of json
+body_of-look json = body_of-content (member (codes "content") json)

@@ -76,3 +76,20 @@ step_paid c n from end tried steps some long on paid =
     let all = ap (λ t. c * t) e in
     let more : 1 * (end - from) ≤ c * (end - from) = mul-le-mul_right (end - from) some in
     omega arith
+
+-- the reads up to a place whose character is the segment's first, and those of the try there
+pub candidate_paid : (n from place : ℕ) → 1 ≤ n → from ≤ place → (n + 1) * from + (place + 1 - from) + min 1 (place - from) + n ≤ (n + 1) * (place + 1)
+candidate_paid n from place some on =
+    let e : place + 1 ≡ from + (place - from) + 1 = omega arith in
+    let all = ap (λ t. (n + 1) * t) e in
+    elim (cases_lt from place) [
+      | inl before ↦ let more : 1 * (place - from) ≤ n * (place - from) = mul-le-mul_right (place - from) some in omega arith
+      | inr at ↦ let same : from ≡ place = omega arith in let none = ap (λ t. n * (place - t)) same in omega arith
+    ]
+
+-- the reads up to where no place is left
+pub scan_paid : (n from past : ℕ) → from ≤ past → (n + 1) * from + (past - from) ≤ (n + 1) * past
+scan_paid n from past on =
+    let e : past ≡ from + (past - from) = omega arith in
+    let all = ap (λ t. n * t) e in
+    omega arith

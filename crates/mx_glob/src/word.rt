@@ -1,11 +1,14 @@
-ghost use Rattle.std.specs.Prelude.{◌≡◌, ℕ, ◌+◌, ◌-◌, ◌*◌, ◌^◌, ◌<◌, ◌≤◌, ◌↔◌, length, drop, min, slice_get, IsTrue};
-ghost use Rattle.mx_json.specs.Folded.{RisesAtMost};
+ghost use Rattle.std.specs.Prelude.{◌≡◌, ℕ, ◌+◌, ◌-◌, ◌*◌, ◌^◌, ◌<◌, ◌≤◌, ◌==◌, ◌↔◌, false, length, drop, min, slice_get, Some, IfOk, IfSome, IsTrue};
+ghost use Rattle.mx_json.specs.Folded.{folded, RisesAtMost};
+ghost use Rattle.mx_glob.specs.Glob.{question};
 ghost use Rattle.mx_glob.specs.Leads.{FitsAt, TakesFirst, IsWordPlace, IsFirstFrom, tried};
 ghost use Rattle.mx_glob.specs.Words.{is_outside, character_before, HasWord};
 
 use crate::place::agrees;
+use crate::scratch::Scratch;
 use crate::search::has_word;
-use mx_json::{Folded, Meter};
+use mx_json::{Folded, Meter, OutOfMemory};
+use std::mem;
 
 /// Whether there is no character, or one that is no part of a word.
 pub(crate) fn is_outside(character: Option<char>) -> bool
@@ -35,6 +38,114 @@ pub(crate) fn find_word(
     if segment.len() > value.len() {
         return None;
     }
+    match fixed_first(segment) {
+        Some(first) => find_by_first(first, segment, value, whole, meter),
+        None => find_at_each(segment, value, whole, meter),
+    }
+}
+
+/// The segment's first character, where that is itself.
+fn fixed_first(segment: &[char]) -> Option<char>
+    ensures { IfSome result
+        (λ first. (slice_get segment.now 0 ≡ Some first) × (first == question ≡ false)) }
+{
+    match segment {
+        [] | ['?', ..] => None,
+        [first, ..] => Some(*first),
+    }
+}
+
+/// The same for a segment whose first character is itself: more is read only where that stands.
+fn find_by_first(
+    first: char,
+    segment: &[char],
+    value: &Folded,
+    whole: bool,
+    meter: &mut Meter,
+) -> Option<usize>
+    requires first_known { slice_get segment.now 0 ≡ Some first }
+    requires itself { first == question ≡ false }
+    requires in_text { length segment.now ≤ length value.now }
+    requires fits { length value.now < 2 ^ 61 }
+    ensures first { IsFirstFrom (IsWordPlace value.now segment.now whole) 0 result }
+    ensures reads { RisesAtMost
+        ((length segment.now + 1) * tried 0 (length value.now + 1 - length segment.now) result)
+        meter.old
+        meter.new }
+{
+    let past = value.len() - segment.len() + 1;
+    let mut from = 0;
+    let mut before = None;
+    while let Some(place) = next_place(first, value, from, past, meter) {
+        let previous = before_place(value, from, before, place, meter);
+        if is_word_place(segment, value, place, previous, Some(first), whole, meter) {
+            return Some(place);
+        }
+        before = Some(first);
+        from = place + 1;
+    }
+    None
+}
+
+/// The first place from `from` on and before `past` at which the character stands. It is kept apart
+/// from its caller, so that all that its loop needs stays in registers.
+#[inline(never)]
+fn next_place(
+    wanted: char,
+    value: &Folded,
+    from: usize,
+    past: usize,
+    meter: &mut Meter,
+) -> Option<usize>
+    requires in_order { from ≤ past }
+    requires fits { past < 2 ^ 62 }
+    ensures first { IsFirstFrom (λ k. (k < past) × (slice_get value.now k ≡ Some wanted)) from result }
+    ensures reads { RisesAtMost (tried from past result) meter.old meter.new }
+{
+    let mut counted = mem::replace(meter, Meter::new());
+    let mut place = from;
+    let mut found = None;
+    while place < past {
+        match value.at(place, &mut counted) {
+            Some(here) if here == wanted => {
+                found = Some(place);
+                break;
+            }
+            _ => place += 1,
+        }
+    }
+    *meter = counted;
+    found
+}
+
+/// The character before a place, where the one before an earlier place is known.
+fn before_place(
+    value: &Folded,
+    from: usize,
+    before: Option<char>,
+    place: usize,
+    meter: &mut Meter,
+) -> Option<char>
+    requires in_order { from ≤ place }
+    requires known { before ≡ character_before value.now from }
+    ensures before { result ≡ character_before value.now place }
+    ensures reads { RisesAtMost (min 1 (place - from)) meter.old meter.new }
+{
+    if place == from {
+        return before;
+    }
+    value.at(place - 1, meter)
+}
+
+/// The same, each place tried.
+fn find_at_each(segment: &[char], value: &Folded, whole: bool, meter: &mut Meter) -> Option<usize>
+    requires { length segment.now ≤ length value.now }
+    ensures first { IsFirstFrom (IsWordPlace value.now segment.now whole) 0 result }
+    ensures reads { RisesAtMost
+        ((length segment.now + 1) * tried 0 (length value.now + 1 - length segment.now) result)
+        meter.old
+        meter.new }
+{
     let last = value.len() - segment.len();
     let mut place = 0;
     let mut before = None;
@@ -133,4 +244,28 @@ pub fn word_literal(name: &Folded, value: &Folded, meter: &mut Meter) -> bool
         return find_word(&[], value, true, meter).is_some();
     }
     has_word(name, value, meter)
+}
+
+/// The same as `word_literal`, on the foldings of a name and of a text, which the scratch keeps: the
+/// name apart from the texts.
+///
+/// # Errors
+///
+/// `OutOfMemory` where there is none for the two and their foldings.
+pub fn name_of_text(
+    name: &str,
+    text: &str,
+    scratch: &mut Scratch,
+    meter: &mut Meter,
+) -> Result<bool, OutOfMemory>
+    ensures word { IfOk result
+        (λ word. IsTrue word ↔ HasWord (folded name.now) (folded text.now)) }
+    ensures reads { RisesAtMost
+        (2 * (length (folded name.now) + 1) * (length (folded text.now) + 1))
+        meter.old
+        meter.new }
+{
+    scratch.name.take(name)?;
+    scratch.texts.ask(text)?;
+    Ok(word_literal(scratch.name.folding(), scratch.texts.folding(), meter))
 }

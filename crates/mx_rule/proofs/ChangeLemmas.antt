@@ -1,13 +1,15 @@
 -- Rules by their places: what a change makes of a list that is kept by its ids, and where the rule with an id stands.
-use Rattle.std.proofs.Common.{◌≡◌, ℕ, zero, suc, ◌+◌, Bool, true, false, not, cond, ◌||◌, List, [], ◌∷◌, length, nat_lt, map, position, remove, slice_get, Option, Some, None, option_map, is_some, refl, sym, ap, subst, ◌∙◌, arith, String, Global, string_bytes}
+use Rattle.std.proofs.Common.{◌≡◌, ℕ, zero, suc, ◌+◌, Bool, true, false, not, cond, ◌||◌, List, [], ◌∷◌, length, nat_lt, map, count_by, sum_by, position, remove, slice_get, Option, Some, None, option_map, is_some, refl, sym, ap, subst, ◌∙◌, arith, String, Global, string_bytes}
 use Rattle.std.specs.List.{list_any, position_or_len}
 use Rattle.std.specs.Map.{keys_of}
 use Rattle.std.specs.Str.{bytes_eq}
 use Rattle.indexmap.specs.IndexMap.{set_value_at}
 use Rattle.std.proofs.lemmas.Bool.{and_from, and_parts, cond-false, cond-true, le-ltb, lt-ltb, ltb-false, ltb-true, not-true, not_from_false, not_from_true, or_from, or_parts}
+use Rattle.std.proofs.lemmas.List.Sums.{sum_by-cons}
+use Rattle.mx_rule.specs.declared.kind.Kind.TheVariants.{Override, Content}
 use Rattle.mx_rule.specs.Editing.{changed_at, has_id, with_changed, without}
 use Rattle.mx_rule.specs.Rule.{PushRule}
-use Rattle.mx_rule.specs.Ruleset.{are_distinct, ids_of}
+use Rattle.mx_rule.specs.Ruleset.{are_distinct, ids_of, is_own, own_among}
 use Rattle.mx_rule.proofs.EditLemmas.{apart-flip, same-text}
 
 abbrev pub Entry : Type 0
@@ -248,4 +250,43 @@ remove-IsKept entries index kept =
       keys ∙ ap (λ texts. remove texts index) kept.0 ∙ sym ids,
       ap are_distinct ids
           ∙ distinct-remove (ids_of (rules_in entries)) index kept.1,
+    )
+
+-- a change that keeps whether each rule passes keeps how many do
+own-changed_at : (p : PushRule → Bool) (change : PushRule → PushRule) → ((rule : PushRule) → p (change rule) ≡ p rule)
+    → (index : ℕ) (rules : List PushRule) → count_by p (changed_at index change rules) ≡ count_by p rules
+own-changed_at p change same index [] = refl
+own-changed_at p change same zero (rule ∷ rules) =
+    let one : PushRule → ℕ = λ r. cond (p r) 1 0 in
+    sum_by-cons one (change rule) rules ∙ ap (λ b. cond b 1 0 + sum_by one rules) (same rule)
+    ∙ sym (sum_by-cons one rule rules)
+own-changed_at p change same (suc index) (rule ∷ rules) =
+    let one : PushRule → ℕ = λ r. cond (p r) 1 0 in
+    sum_by-cons one rule (changed_at index change rules)
+    ∙ ap (λ n. one rule + n) (own-changed_at p change same index rules)
+    ∙ sym (sum_by-cons one rule rules)
+
+-- what a list keeps: its rules by their ids, and how many of them the user made, as override rules and as others
+abbrev pub IsListOf : List Entry → ℕ → ℕ → Type 0
+IsListOf entries own_override own_other = (map string_bytes (keys_of entries) ≡ ids_of (rules_in entries))
+    × (are_distinct (ids_of (rules_in entries)) ≡ true)
+    × (own_override ≡ own_among Override (rules_in entries))
+    × (own_other ≡ own_among Content (rules_in entries))
+
+-- a change of one rule that keeps its id and who made it keeps all that
+pub set-IsListOf : (change : PushRule → PushRule) → ((rule : PushRule) → (change rule).id ≡ rule.id)
+    → ((rule : PushRule) → is_own Override (change rule) ≡ is_own Override rule)
+    → ((rule : PushRule) → is_own Content (change rule) ≡ is_own Content rule)
+    → (entries : List Entry) (index : ℕ) (rule : PushRule) (own_override own_other : ℕ)
+    → slice_get (rules_in entries) index ≡ Some rule → IsListOf entries own_override own_other
+    → IsListOf (set_value_at entries index (change rule)) own_override own_other
+set-IsListOf change same same_override same_other entries index rule own_override own_other at kept =
+    let ids = set-IsKept change same entries index rule at (kept.0, kept.1) in
+    let set = rules-set change entries index rule at in (
+      ids.0,
+      ids.1,
+      kept.2 ∙ sym (ap (own_among Override) set ∙ own-changed_at (is_own Override) change same_override index
+          (rules_in entries)),
+      kept.3 ∙ sym (ap (own_among Content) set ∙ own-changed_at (is_own Content) change same_other index
+          (rules_in entries)),
     )

@@ -31,7 +31,7 @@ use Rattle.mx_cond.specs.PowerLevels.{needed_power}
 use Rattle.mx_rule.specs.declared.criterion.Criterion.{Criterion}
 use Rattle.mx_rule.specs.declared.criterion.Criterion.TheVariants.{Conditions, Word, InRoom, FromSender}
 use Rattle.mx_rule.specs.Rule.{MayDecide, Meets, PushRule, is_passed_over}
-use Rattle.mx_rule.specs.Deciding.{after, after_any, compares, equals, glob, glob_word, has_text, has_word, holds, is_met, is_word_at, matches_at, may_decide, meets, names_owner, same_plain, some_below, some_upto, some_word}
+use Rattle.mx_rule.specs.Deciding.{after_any, after_character, compares, equals, glob, glob_word, has_text, has_word, holds, is_met, is_word_at, matches_at, may_decide, meets, names_owner, same_plain, some_below, some_upto, some_word}
 
 -- ---- by the form of a statement
 
@@ -95,11 +95,11 @@ after_any-Decides : (test : List ℕ → Bool) (Rest : List ℕ → Type 0)
 after_any-Decides test Rest rest [] = refuted (λ never. never)
 after_any-Decides test Rest rest (first ∷ tail) = rest tail
 
-after-Decides : (c : ℕ) (test : List ℕ → Bool) (Rest : List ℕ → Type 0)
+after_character-Decides : (c : ℕ) (test : List ℕ → Bool) (Rest : List ℕ → Type 0)
     → ((text : List ℕ) → Decides (test text) (Rest text))
-    → (text : List ℕ) → Decides (after c test text) (After c Rest text)
-after-Decides c test Rest rest [] = refuted (λ never. never)
-after-Decides c test Rest rest (first ∷ tail) =
+    → (text : List ℕ) → Decides (after_character c test text) (After c Rest text)
+after_character-Decides c test Rest rest [] = refuted (λ never. never)
+after_character-Decides c test Rest rest (first ∷ tail) =
     Decides-and (first == c) (test tail) (Decides-eqb first c) (rest tail)
 
 glob-Decides : (pattern text : List ℕ) → Decides (glob pattern text) (Matches pattern text)
@@ -109,7 +109,7 @@ glob-Decides (c ∷ rest) text =
     (some_upto-Decides (λ k. glob rest (drop k text)) (λ k. Matches rest (drop k text))
     (λ k. glob-Decides rest (drop k text)) (length text))
     (if-Decides (c == question) _ _ _ _ (after_any-Decides (glob rest) (Matches rest) (glob-Decides rest) text)
-    (after-Decides c (glob rest) (Matches rest) (glob-Decides rest) text))
+    (after_character-Decides c (glob rest) (Matches rest) (glob-Decides rest) text))
 
 is_word_at-Decides : (text : List ℕ) (a b : ℕ) → Decides (is_word_at text a b) (IsWordAt text a b)
 is_word_at-Decides text a b =

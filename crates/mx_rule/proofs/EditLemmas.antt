@@ -7,7 +7,7 @@ use Rattle.std.proofs.lemmas.Slice.Eq.{bytes_eq-Decides}
 use Rattle.mx_json.specs.declared.value.Json.{Json}
 use Rattle.mx_rule.specs.declared.kind.Kind.{Kind}
 use Rattle.mx_rule.specs.declared.kind.Kind.TheVariants.{Override, Content, Room, Sender, Underride}
-use Rattle.mx_rule.specs.Editing.{has_id, is_own_with, put_after, put_before, put_first, put_over, with_actions, with_enabled, without}
+use Rattle.mx_rule.specs.Editing.{has_id, is_own_with, put_after, put_before, put_first_own, put_over, with_actions, with_enabled, without}
 use Rattle.mx_rule.specs.Rule.{PushRule}
 use Rattle.mx_rule.specs.Ruleset.{are_distinct, are_ranked, are_rules_of, fits, ids_of, is_master, is_own, rank_of}
 
@@ -248,12 +248,12 @@ module _ (kind : Kind) (new : PushRule) (own : rank_of kind new ≡ 1) where
       and_from _ _ (subst P (sym own) above) ranked
 
   ranked-put_first : (rules : List PushRule) → are_ranked kind rules ≡ true
-      → are_ranked kind (put_first kind new rules) ≡ true
+      → are_ranked kind (put_first_own kind new rules) ≡ true
   ranked-put_first [] ranked = refl
   ranked-put_first (rule ∷ rules) ranked =
       let parts = and_parts (from_rank kind (rank_of kind rule) rules) (are_ranked kind rules) ranked in
       let rest = ranked-put_first rules parts.1 in
-      cond_both (not (is_master kind rule)) (new ∷ rule ∷ rules) (rule ∷ put_first kind new rules)
+      cond_both (not (is_master kind rule)) (new ∷ rule ∷ rules) (rule ∷ put_first_own kind new rules)
       (λ ys. are_ranked kind ys ≡ true)
       (λ e. ranked-new rule rules (rank-not_master kind rule (not-true _ e)) ranked)
       (λ e. and_from _ _ (all-put_before _ _ new rules (rw (own, not-false _ e) refl) parts.0) rest)
@@ -292,7 +292,7 @@ module _ (kind : Kind) (new : PushRule) (own : rank_of kind new ≡ 1) where
 
 module _ (kind : Kind) (new : PushRule) (own : rank_of kind new ≡ 1) (fit : fits kind new.criterion ≡ true)
     (rules : List PushRule) (fresh : is_fresh new.id rules) (are : AreRules kind rules) where
-  pub put_first-AreRules : AreRules kind (put_first kind new rules)
+  pub put_first-AreRules : AreRules kind (put_first_own kind new rules)
   put_first-AreRules = record {
     fit = all-put_before _ _ new rules fit are.fit;
     ranked = ranked-put_first kind new own rules are.ranked;

@@ -40,6 +40,7 @@ action_of json = option_map_or word_of (text_of json) (setting_of json)
 
 -- ---- what the actions of a rule mean together
 
+-- the action is `notify`
 abbrev pub is_notify : Action → Bool
 is_notify Notify = true
 is_notify other = false
@@ -60,19 +61,20 @@ last_said says [] = None
 last_said says (action ∷ actions) = option_or (last_said says actions) (says action)
 
 -- a rule notifies where one of its actions is `notify`
-abbrev pub notifies : List Action → Bool
-notifies actions = list_any is_notify actions
+abbrev pub says_notify : List Action → Bool
+says_notify actions = list_any is_notify actions
 
 -- it highlights where its last tweak `highlight` is on
-abbrev pub highlights : List Action → Bool
-highlights actions = unwrap_or (last_said highlight_in actions) false
+abbrev pub says_highlight : List Action → Bool
+says_highlight actions = unwrap_or (last_said highlight_in actions) false
 
 -- its sound is that of its last tweak `sound`
 abbrev pub sound_of : List Action → Option (List ℕ)
 sound_of actions = unwrap_or (last_said sound_in actions) None
 
+-- what these actions say together of an event
 abbrev pub meaning_of : List Action → Verdict
-meaning_of actions = record { notify = notifies actions; highlight = highlights actions; sound = sound_of actions }
+meaning_of actions = record { notify = says_notify actions; highlight = says_highlight actions; sound = sound_of actions }
 
 -- what a rule with these actions says of an event for which it decides
 abbrev pub verdict_of : List Json → Verdict

@@ -45,16 +45,16 @@ after_any test [] = false
 after_any test (first ∷ tail) = test tail
 
 -- the text begins with c, and its tail passes
-abbrev pub after : ℕ → (List ℕ → Bool) → List ℕ → Bool
-after c test [] = false
-after c test (first ∷ tail) = (first == c) && test tail
+abbrev pub after_character : ℕ → (List ℕ → Bool) → List ℕ → Bool
+after_character c test [] = false
+after_character c test (first ∷ tail) = (first == c) && test tail
 
 -- the pattern matches the text, by cases on the pattern: the empty one, '*', '?', another character
 abbrev pub glob : List ℕ → List ℕ → Bool
 glob [] text = bytes_eq text []
 glob (c ∷ rest) text =
     if c == star then some_upto (λ k. glob rest (drop k text)) (length text)
-    else (if c == question then after_any (glob rest) text else after c (glob rest) text)
+    else (if c == question then after_any (glob rest) text else after_character c (glob rest) text)
 
 -- the part of the text from a to b stands in it as a word
 abbrev pub is_word_at : List ℕ → ℕ → ℕ → Bool

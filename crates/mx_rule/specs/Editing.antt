@@ -1,5 +1,5 @@
 -- What a user's edit makes of the push rules, and when it is refused: the Client-Server API v1.11, "Push rules: API"; the limits, the order of the refusals and the place of a rule without anchor are ours.
-use Rattle.std.specs.Prelude.{ℕ, zero, suc, nat_le, nat_lt, Bool, true, false, not, ◌&&◌, ◌||◌, if◌then◌else◌, List, [], ◌∷◌, length, map, filter, count_by, sum_by, find, remove, codes, Option, Some, None, is_some, unwrap_or}
+use Rattle.std.specs.Prelude.{ℕ, zero, suc, nat_le, nat_lt, Bool, true, false, not, ◌&&◌, ◌||◌, if◌then◌else◌, List, [], ◌∷◌, length, map, filter, sum_by, find, remove, codes, Option, Some, None, is_some, unwrap_or}
 use Rattle.std.specs.List.{list_all, list_any}
 use Rattle.std.specs.Option.{option_map_or}
 use Rattle.std.specs.Str.{bytes_eq}
@@ -7,6 +7,7 @@ use Rattle.mx_json.specs.declared.value.Json.{Json}
 use Rattle.mx_json.specs.declared.value.JsonList.{JsonList}
 use Rattle.mx_json.specs.Ids.{begins_with, holds_byte, is_room_id, is_user_id}
 use Rattle.mx_json.specs.Json.{is_valid, text_at, text_of}
+use Rattle.mx_json.specs.Path.{backslash, full_stop}
 use Rattle.mx_cond.specs.Condition.{is_condition}
 use Rattle.mx_rule.specs.declared.criterion.Criterion.{Criterion}
 use Rattle.mx_rule.specs.declared.criterion.Criterion.TheVariants.{Conditions, Word, InRoom, FromSender}
@@ -21,10 +22,11 @@ use Rattle.mx_rule.specs.declared.kind.Kind.TheVariants.{Override, Content, Room
 use Rattle.mx_rule.specs.declared.list_change.ListChange.{ListChange}
 use Rattle.mx_rule.specs.declared.list_change.ListChange.TheVariants.{Replace, Remove}
 use Rattle.mx_rule.specs.Rule.{PushRule}
-use Rattle.mx_rule.specs.Ruleset.{PushRuleset, is_master, is_own, kinds, rules_of_kind}
+use Rattle.mx_rule.specs.Ruleset.{PushRuleset, is_master, is_own, kinds, own_among, rules_of_kind}
 
 -- ---- rules by their ids
 
+-- the rule has this id
 abbrev pub has_id : List ℕ → PushRule → Bool
 has_id id rule = bytes_eq rule.id id
 
@@ -38,7 +40,7 @@ is_own_with kind id rule = is_own kind rule && has_id id rule
 
 -- how many rules the user made, over all kinds
 abbrev pub own_count : PushRuleset → ℕ
-own_count rules = sum_by (λ kind. count_by (is_own kind) (rules_of_kind kind rules)) kinds
+own_count rules = sum_by (λ kind. own_among kind (rules_of_kind kind rules)) kinds
 
 -- ---- the rule that a put makes
 
@@ -81,14 +83,14 @@ put_over test new [] = []
 put_over test new (rule ∷ rules) = if test rule then new ∷ rules else rule ∷ put_over test new rules
 
 -- the first of the user's rules: only the master stands before it
-abbrev pub put_first : Kind → PushRule → List PushRule → List PushRule
-put_first kind new rules = put_before (λ rule. not (is_master kind rule)) new rules
+abbrev pub put_first_own : Kind → PushRule → List PushRule → List PushRule
+put_first_own kind new rules = put_before (λ rule. not (is_master kind rule)) new rules
 
 -- without an anchor a rule of the user's that is there keeps its place, and a new one is the first of the user's
 abbrev pub put_by_itself : Kind → PushRule → List PushRule → List PushRule
 put_by_itself kind new rules =
     if list_any (is_own_with kind new.id) rules then put_over (is_own_with kind new.id) new rules
-    else put_first kind new (without new.id rules)
+    else put_first_own kind new (without new.id rules)
 
 -- the rules of a kind after a put: `before` decides over `after`
 abbrev pub with_put : Kind → PushRule → Option (List ℕ) → Option (List ℕ) → List PushRule → List PushRule
@@ -102,9 +104,11 @@ with_put kind new None None rules = put_by_itself kind new rules
 abbrev pub with_changed : List ℕ → (PushRule → PushRule) → List PushRule → List PushRule
 with_changed id change rules = map (λ rule. if has_id id rule then change rule else rule) rules
 
+-- the rule, enabled or disabled
 abbrev pub with_enabled : Bool → PushRule → PushRule
 with_enabled enabled rule = record rule { enabled = enabled }
 
+-- the rule, with these actions
 abbrev pub with_actions : List Json → PushRule → PushRule
 with_actions actions rule = record rule { actions = actions }
 
@@ -145,23 +149,17 @@ changed_at zero change (rule ∷ rules) = change rule ∷ rules
 changed_at (suc index) change (rule ∷ rules) = rule ∷ changed_at index change rules
 
 -- what a change makes of the rules of a kind
-abbrev pub changed : ListChange → List PushRule → List PushRule
-changed (Replace list) rules = list
-changed (Remove index) rules = remove rules index
-changed (ListChange.Enable index enabled) rules = changed_at index (with_enabled enabled) rules
-changed (ListChange.SetActions index actions) rules = changed_at index (with_actions actions) rules
+abbrev pub list_changed : ListChange → List PushRule → List PushRule
+list_changed (Replace list) rules = list
+list_changed (Remove index) rules = remove rules index
+list_changed (ListChange.Enable index enabled) rules = changed_at index (with_enabled enabled) rules
+list_changed (ListChange.SetActions index actions) rules = changed_at index (with_actions actions) rules
 
 -- ---- the refusals
 
--- the bytes `.`, `/` and `\`
-abbrev pub full_stop : ℕ
-full_stop = 46
-
+-- the byte `/`
 abbrev pub slash : ℕ
 slash = 47
-
-abbrev pub backslash : ℕ
-backslash = 92
 
 -- the id of a predefined rule
 abbrev pub is_reserved : List ℕ → Bool
@@ -214,6 +212,7 @@ wrong_part kind id pattern conditions actions =
     else (if not (are_actions actions) then Some part.Actions
     else None)))
 
+-- one of the rules has this id
 abbrev pub has_rule : List ℕ → List PushRule → Bool
 has_rule id rules = list_any (has_id id) rules
 

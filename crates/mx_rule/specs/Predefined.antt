@@ -57,33 +57,42 @@ has_state_key key = event_match (codes "state_key") key
 
 -- ---- actions, as JSON
 
+-- the action `notify`
 abbrev pub notify : Json
 notify = Text (codes "notify")
 
+-- the tweak `sound` with this name
 abbrev pub sound : List ℕ → Json
 sound name = Object record {
   pairs =
       (codes "set_tweak", Text (codes "sound")) ∷ (codes "value", Text name) ∷ [];
 }
 
+-- the tweak `highlight`, which is on where it has no value
 abbrev pub highlight : Json
 highlight = Object record { pairs = (codes "set_tweak", Text (codes "highlight")) ∷ [] }
 
+-- no action: the event doesn't notify
 abbrev pub silence : List Json
 silence = []
 
+-- the event notifies
 abbrev pub notice : List Json
 notice = notify ∷ []
 
+-- it notifies, with the default sound
 abbrev pub notice_with_sound : List Json
 notice_with_sound = notify ∷ sound (codes "default") ∷ []
 
+-- it notifies, and is highlighted
 abbrev pub notice_with_highlight : List Json
 notice_with_highlight = notify ∷ highlight ∷ []
 
+-- it notifies with the default sound, and is highlighted
 abbrev pub notice_with_both : List Json
 notice_with_both = notify ∷ sound (codes "default") ∷ highlight ∷ []
 
+-- it notifies, with the sound of a call
 abbrev pub ringing : List Json
 ringing = notify ∷ sound (codes "ring") ∷ []
 
@@ -98,6 +107,7 @@ given_rule id conditions actions =
 abbrev pub master : PushRule
 master = record (given_rule (codes ".m.rule.master") [] silence) { enabled = false }
 
+-- the predefined override rules of this owner, in order of importance
 abbrev pub override_table : List ℕ → List PushRule
 override_table owner =
     master
@@ -135,9 +145,11 @@ localpart_rule localpart = record {
   criterion = Word localpart;
 }
 
+-- the predefined content rules of an owner with this localpart
 abbrev pub content_table : List ℕ → List PushRule
 content_table localpart = localpart_rule localpart ∷ []
 
+-- the predefined underride rules, in order of importance
 abbrev pub underride_table : List PushRule
 underride_table =
     given_rule (codes ".m.rule.call")

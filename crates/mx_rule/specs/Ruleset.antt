@@ -1,5 +1,5 @@
 -- The push rules of a user, in order of importance, and which of them decides: the Client-Server API v1.11, "Push rules"; where user rules stand among predefined ones is ours.
-use Rattle.std.specs.Prelude.{◌≡◌, ℕ, ◌+◌, nat_le, Bool, true, false, not, ◌&&◌, if◌then◌else◌, List, [], ◌∷◌, ◌++◌, map, filter, codes, Option, Some, None, ◌⊎◌}
+use Rattle.std.specs.Prelude.{◌≡◌, ℕ, ◌+◌, nat_le, Bool, true, false, not, ◌&&◌, if◌then◌else◌, List, [], ◌∷◌, ◌++◌, map, filter, count_by, codes, Option, Some, None, ◌⊎◌}
 use Rattle.std.specs.List.{flat_map, list_all, list_any}
 use Rattle.std.specs.Str.{bytes_eq}
 use Rattle.mx_cond.specs.Facts.{EventFacts}
@@ -54,6 +54,10 @@ is_master kind rule = false
 abbrev pub is_own : Kind → PushRule → Bool
 is_own kind rule = not (is_master kind rule) && not rule.predefined
 
+-- how many of a kind's rules the user made
+abbrev pub own_among : Kind → List PushRule → ℕ
+own_among kind rules = count_by (is_own kind) rules
+
 -- a predefined rule but the master
 abbrev pub is_given : Kind → PushRule → Bool
 is_given kind rule = not (is_master kind rule) && rule.predefined
@@ -107,6 +111,7 @@ abbrev pub are_distinct : List (List ℕ) → Bool
 are_distinct [] = true
 are_distinct (text ∷ texts) = not (list_any (λ later. bytes_eq later text) texts) && are_distinct texts
 
+-- the ids of these rules
 abbrev pub ids_of : List PushRule → List (List ℕ)
 ids_of rules = map (λ rule. rule.id) rules
 

@@ -2,10 +2,11 @@ ghost use Rattle.std.specs.Prelude.{◌≡◌, ◌<◌, true, false, [], ◌∷�
 ghost use Rattle.std.specs.List.{list_any};
 ghost use Rattle.std.specs.Str.{bytes_eq};
 ghost use Rattle.indexmap.specs.IndexMap.{keys, values};
-ghost use Rattle.mx_rule.specs.Editing.{changed, changed_at, has_id, with_actions, with_enabled};
-ghost use Rattle.mx_rule.specs.Ruleset.{are_distinct, ids_of};
+ghost use Rattle.mx_rule.specs.Editing.{list_changed, changed_at, has_id, with_actions, with_enabled};
+ghost use Rattle.mx_rule.specs.Ruleset.{are_distinct, ids_of, own_among};
 
 use crate::actions::Actions;
+use crate::kind::Kind;
 use crate::list_change::ListChange;
 use crate::rule::Rule;
 use indexmap::IndexMap;
@@ -17,6 +18,9 @@ use std::marker::Model;
 #[derive(Drop)]
 pub struct RuleList {
     rules: IndexMap<String, Rule>,
+    // How many of them the user made, if they are override rules, and if they are of another kind.
+    own_override: usize,
+    own_other: usize,
 }
 
 impl Model for RuleList {
@@ -33,12 +37,15 @@ impl Model for RuleList {
     ghost use Rattle.std.specs.Prelude.{◌≡◌, true, map};
     ghost use Rattle.std.specs.String.{string_bytes};
     ghost use Rattle.indexmap.specs.IndexMap.{keys, values};
-    ghost use Rattle.mx_rule.specs.Ruleset.{are_distinct, ids_of};
+    ghost use Rattle.mx_rule.specs.declared.kind.Kind.TheVariants.{Override, Content};
+    ghost use Rattle.mx_rule.specs.Ruleset.{are_distinct, ids_of, own_among};
 
     ghost view = { λ list. values list.rules };
 
     ghost invariant = { λ list. (map string_bytes (keys list.rules) ≡ ids_of (values list.rules))
-        × (are_distinct (ids_of (values list.rules)) ≡ true) };
+        × (are_distinct (ids_of (values list.rules)) ≡ true)
+        × (list.own_override ≡ own_among Override (values list.rules))
+        × (list.own_other ≡ own_among Content (values list.rules)) };
 }
 
 impl RuleList {
@@ -55,7 +62,13 @@ impl RuleList {
         for rule in rules {
             put_last(alloc, &mut by_id, rule)?;
         }
-        Ok(RuleList { rules: by_id })
+        let own_override = own_among(by_id.values().as_slice(), Kind::Override);
+        let own_other = own_among(by_id.values().as_slice(), Kind::Content);
+        Ok(RuleList {
+            rules: by_id,
+            own_override,
+            own_other,
+        })
     }
 
     /// The rules, in order of importance.
@@ -74,9 +87,19 @@ impl RuleList {
         self.rules.get_index_of(id)
     }
 
+    /// How many of the rules the user made, if they are of this kind. It reads none of them.
+    pub fn own_count(&self, kind: Kind) -> usize
+        ensures { result ≡ own_among kind self.now }
+    {
+        match kind {
+            Kind::Override => self.own_override,
+            _ => self.own_other,
+        }
+    }
+
     // Makes a change of the rules. It takes no memory.
     pub(crate) fn change(&mut self, change: ListChange)
-        ensures { self.new ≡ changed change self.old }
+        ensures { self.new ≡ list_changed change self.old }
     {
         match change {
             ListChange::Replace(list) => *self = list,
@@ -90,6 +113,8 @@ impl RuleList {
         ensures { self.new ≡ remove self.old index }
     {
         let _removed = self.rules.shift_remove_index(index);
+        self.own_override = own_among(self.rules.values().as_slice(), Kind::Override);
+        self.own_other = own_among(self.rules.values().as_slice(), Kind::Content);
     }
 
     fn set_enabled(&mut self, index: usize, enabled: bool)
@@ -119,6 +144,12 @@ impl RuleList {
         let rules = self.as_slice();
         RuleList::of(alloc, copied(alloc, rules)?)
     }
+}
+
+fn own_among(rules: &[Rule], kind: Kind) -> usize
+    ensures { result ≡ own_among kind rules.now }
+{
+    rules.iter().filter(|rule| rule.is_own(kind)).count()
 }
 
 // Puts a rule last whose id is new.

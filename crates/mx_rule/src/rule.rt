@@ -29,6 +29,8 @@ pub struct Rule {
     enabled: bool,
     actions: Actions,
     criterion: Criterion,
+    // Whether the id is that of a rule which isn't evaluated for an event that says whom it mentions.
+    looks_for_mention: bool,
 }
 
 impl Model for Rule {
@@ -48,6 +50,11 @@ impl Model for Rule {
       actions = rule.actions;
       criterion = rule.criterion;
     } };
+
+    ghost use Rattle.std.specs.Prelude.{◌≡◌};
+    ghost use Rattle.mx_rule.specs.Rule.{looks_for_mention as looks_for_mention_in};
+
+    ghost invariant = { λ rule. rule.looks_for_mention ≡ looks_for_mention_in rule.id };
 }
 
 impl Rule {
@@ -67,12 +74,14 @@ impl Rule {
           criterion = criterion;
         } }
     {
+        let looks_for_mention = looks_for_mention(id.as_str());
         Rule {
             id,
             predefined,
             enabled,
             actions,
             criterion,
+            looks_for_mention,
         }
     }
 
@@ -189,7 +198,7 @@ impl Rule {
         ensures meaning { IfOk result (λ may. IsTrue may ↔ MayDecide self.now (told_by facts.now)) }
         ensures exact { IfOk result (λ may. may ≡ may_decide self.now (told_by facts.now)) }
     {
-        if !self.enabled || is_passed_over(self.id.as_str(), facts.event) {
+        if !self.enabled || self.is_passed_over(facts.event) {
             return Ok(false);
         }
         self.criterion
@@ -210,14 +219,15 @@ impl Rule {
             enabled: self.enabled,
             actions: self.actions.copied(alloc)?,
             criterion: self.criterion.copied(alloc)?,
+            looks_for_mention: self.looks_for_mention,
         })
     }
-}
 
-fn is_passed_over(id: &str, event: &Event) -> bool
-    ensures { result ≡ is_passed_over id.now event.now }
-{
-    looks_for_mention(id) && has_mentions(event)
+    fn is_passed_over(&self, event: &Event) -> bool
+        ensures { result ≡ is_passed_over self.now.id event.now }
+    {
+        self.looks_for_mention && has_mentions(event)
+    }
 }
 
 // The rules that aren't evaluated for an event which says itself whom it mentions.

@@ -1,8 +1,8 @@
 ghost use Rattle.std.specs.Prelude.{◌≡◌, ◌<◌, true, length, position, slice_get, IfOk, IfSome};
 ghost use Rattle.std.specs.Option.{option_copied};
 ghost use Rattle.mx_cond.specs.Facts.{told_by};
-ghost use Rattle.mx_rule.specs.Editing.{changed, has_id, with_list};
-ghost use Rattle.mx_rule.specs.Ruleset.{are_rules_of, by_importance, flat, placed, rules_of_kind, IsFirstMatch};
+ghost use Rattle.mx_rule.specs.Editing.{list_changed, has_id, with_list};
+ghost use Rattle.mx_rule.specs.Ruleset.{are_rules_of, by_importance, flat, own_among, placed, rules_of_kind, IsFirstMatch};
 
 use crate::kind::{Kind, RulePlace};
 use crate::list::RuleList;
@@ -92,6 +92,13 @@ impl Ruleset {
         self.list(kind).as_slice()
     }
 
+    /// How many rules of a kind the user made. It reads none of them.
+    pub fn own_count(&self, kind: Kind) -> usize
+        ensures { result ≡ own_among kind (rules_of_kind kind self.now) }
+    {
+        self.list(kind).own_count(kind)
+    }
+
     fn list(&self, kind: Kind) -> &RuleList
         ensures list { result.now ≡ rules_of_kind kind self.now }
         ensures ordered { are_rules_of kind result.now ≡ true }
@@ -125,9 +132,9 @@ impl Ruleset {
     /// Makes a change of the rules of a kind, after which they still have their kind's criterion,
     /// stand in order of importance, and have no two of one id. It takes no memory.
     pub fn change(&mut self, kind: Kind, change: ListChange)
-        requires { are_rules_of kind (changed change (rules_of_kind kind self.old)) ≡ true }
+        requires { are_rules_of kind (list_changed change (rules_of_kind kind self.old)) ≡ true }
         ensures { self.new
-            ≡ with_list kind (changed change (rules_of_kind kind self.old)) self.old }
+            ≡ with_list kind (list_changed change (rules_of_kind kind self.old)) self.old }
     {
         match kind {
             Kind::Override => self.override_.change(change),

@@ -1,6 +1,6 @@
 ghost use Rattle.std.specs.Prelude.{◌≡◌, option_map, IfOk};
 ghost use Rattle.std.specs.Option.{option_copied};
-ghost use Rattle.mx_rule.specs.Actions.{highlight_in, highlights, notifies, sound_in, sound_of, meaning_of};
+ghost use Rattle.mx_rule.specs.Actions.{highlight_in, says_highlight, says_notify, sound_in, sound_of, meaning_of};
 
 use crate::action::Action;
 use mx_json::{JsonText, OutOfMemory};
@@ -32,23 +32,23 @@ impl Verdict {
             None => None,
         };
         Ok(Verdict {
-            notify: notifies(actions),
-            highlight: highlights(actions),
+            notify: says_notify(actions),
+            highlight: says_highlight(actions),
             sound,
         })
     }
 }
 
-fn notifies(actions: &[Action]) -> bool
-    ensures { result ≡ notifies actions.now }
+fn says_notify(actions: &[Action]) -> bool
+    ensures { result ≡ says_notify actions.now }
 {
     actions
         .iter()
         .any(|action| matches!(action, Action::Notify))
 }
 
-fn highlights(actions: &[Action]) -> bool
-    ensures { result ≡ highlights actions.now }
+fn says_highlight(actions: &[Action]) -> bool
+    ensures { result ≡ says_highlight actions.now }
 {
     let mut said = None;
     for action in actions {

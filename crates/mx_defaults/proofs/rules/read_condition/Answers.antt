@@ -4,8 +4,8 @@ use Rattle.mx_cond.specs.Condition.{is_condition, read_condition}
 use Rattle.mx_defaults.proofs.RowLemmas.{condition_of-is, condition_of-valid}
 use Rattle.mx_defaults.proofs.rules.read_condition.Goals as goal
 
-pub from_json-requires : goal.from_json-requires
-from_json-requires c = rw c.in_ok-json.ensures (condition_of-valid c.args.owner.now c.args.asked.now (is_utf8-from_IsUtf8 c.args.owner.now c.utf8.owner) c.requires)
+pub read-requires : goal.read-requires
+read-requires c = rw c.in_ok-json.ensures (condition_of-valid c.args.owner.now c.args.asked.now (is_utf8-from_IsUtf8 c.args.owner.now c.utf8.owner) c.requires)
 
 pub unreachable-requires : goal.unreachable-requires
 unreachable-requires c =

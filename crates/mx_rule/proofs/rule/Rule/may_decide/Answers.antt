@@ -41,7 +41,7 @@ returns-clause-meaning c =
     let P : PushRule → Type 0 = λ rule. IfOk c.is_met.result (λ may. IsTrue may ↔ MayDecide rule facts) in
     let enabled : fields.enabled ≡ true = search rules in
     let tried : is_passed_over fields.id facts.event ≡ false = search rules in
-    subst P c.self.view_is (MayDecide-met rule facts c.is_met.result enabled tried (rw c.as_str-2.ensures at c.is_met.ensures))
+    subst P c.self.view_is (MayDecide-met rule facts c.is_met.result enabled tried (rw c.as_str.ensures at c.is_met.ensures))
 
 pub returns-clause-exact : goal.returns-clause-exact
 returns-clause-exact c = MayDecide-exact c.args.self.now (told_by c.args.facts.now) c.is_met.result (returns-clause-meaning c)

@@ -1,6 +1,0 @@
-use Rattle.std.proofs.Common.{◌≡◌, take, map}
-use Rattle.mx_json.specs.declared.value.Json.{Text}
-use Rattle.mx_defaults.proofs.values.texts.Given as goal
-
-abbrev pub invariant-loop-key : goal.invariant-loop-key
-invariant-loop-key l = l.object.pairs ≡ map (λ member. (member.0.now, Text member.1.now)) (take l.key-index l.members)
