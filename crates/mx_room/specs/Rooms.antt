@@ -1,5 +1,5 @@
 -- The rooms of one homeserver by their ids, each with its state, and which members are local there: ours.
-use Rattle.std.specs.Prelude.{ℕ, Bool, ◌&&◌, List, [], ◌∷◌, map, Option, Some, None, is_some, unwrap_or}
+use Rattle.std.specs.Prelude.{ℕ, Bool, ◌&&◌, List, [], ◌∷◌, map, Option, Some, None, unwrap_or}
 use Rattle.std.specs.Cmp.Lexicographic.{slice_cmp}
 use Rattle.std.specs.FinMap.{get, insert}
 use Rattle.std.specs.FinSet as set
@@ -7,7 +7,7 @@ use Rattle.std.specs.List.{filter}
 use Rattle.std.specs.Ordering.{nat_cmp}
 use Rattle.std.specs.Str.{bytes_eq}
 use Rattle.mx_json.specs.declared.value.Json.{Json}
-use Rattle.mx_json.specs.Ids.{is_user_id, localpart_of}
+use Rattle.mx_json.specs.Ids.{is_local, is_user_id}
 use Rattle.mx_event.specs.Event.{room_id_of}
 use Rattle.mx_room.specs.Change.{Sets, with_sets}
 use Rattle.mx_room.specs.Members.{has_joined}
@@ -41,7 +41,7 @@ with_room id sets rooms = insert rooms id (with_sets sets (room_at rooms id))
 
 -- the text is the id of a user of this server
 abbrev pub is_local_id : List ℕ → List ℕ → Bool
-is_local_id server user = is_user_id user && is_some (localpart_of server user)
+is_local_id server user = is_user_id user && is_local server user
 
 -- the user is one of this server, and joined
 abbrev pub is_local_member : List ℕ → RoomState → List ℕ → Bool

@@ -2,7 +2,7 @@ ghost use Rattle.std.specs.Prelude.{◌≡◌, ◌<◌, [], ℕ, List, true, fal
 ghost use Rattle.std.specs.List.{list_any};
 ghost use Rattle.std.specs.Option.{option_map_or};
 ghost use Rattle.std.specs.Str.{bytes_eq};
-ghost use Rattle.mx_json.specs.Ids.{localpart_of};
+ghost use Rattle.mx_json.specs.Ids.{is_local};
 ghost use Rattle.mx_event.specs.Event.{room_id_of};
 ghost use Rattle.mx_room.specs.Change.{sets_of, with_sets};
 ghost use Rattle.mx_room.specs.Hosted.{IsListing, is_ready, user_of};
@@ -72,7 +72,7 @@ impl HostedRoom {
 fn set_user(local: &mut LocalMembers, server: &str, user: Option<UserId>, joined: bool)
     requires { length local.old.users < local.old.capacity }
     ensures { (q : List ℕ) → list_any (bytes_eq q) local.new.users
-        ≡ (if option_map_or (λ user. is_some (localpart_of server.now user) && bytes_eq q user)
+        ≡ (if option_map_or (λ user. is_local server.now user && bytes_eq q user)
         user false then joined else list_any (bytes_eq q) local.old.users) }
 {
     let Some(user) = user else {

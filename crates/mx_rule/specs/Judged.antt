@@ -1,9 +1,9 @@
 -- Whether and how an event is judged for a user: the Client-Server API v1.11, "Push rules"; for whom, and by which state of the room, is ours.
-use Rattle.std.specs.Prelude.{◌≡◌, ℕ, Bool, false, not, ◌&&◌, ◌||◌, if◌then◌else◌, List, [], ◌∷◌, codes, Option, Some, None, is_some, ◌⊎◌, IsSomeAnd, MatchBool}
+use Rattle.std.specs.Prelude.{◌≡◌, ℕ, Bool, false, not, ◌&&◌, ◌||◌, if◌then◌else◌, List, [], ◌∷◌, codes, Option, Some, None, ◌⊎◌, IsSomeAnd, MatchBool}
 use Rattle.std.specs.Option.{option_map_or}
 use Rattle.std.specs.Str.{bytes_eq}
 use Rattle.mx_json.specs.declared.value.Json.{Json}
-use Rattle.mx_json.specs.Ids.{is_user_id, localpart_of}
+use Rattle.mx_json.specs.Ids.{is_local, is_user_id}
 use Rattle.mx_event.specs.Event.{membership_of, sender_of}
 use Rattle.mx_cond.specs.Facts.{EventFacts}
 use Rattle.mx_rule.specs.declared.verdict.Verdict.{Verdict}
@@ -23,7 +23,7 @@ invites event user =
 abbrev pub is_judged : List ℕ → List ℕ → List ℕ → Json → Bool
 is_judged server owner membership_after event =
     is_user_id owner
-    && is_some (localpart_of server owner)
+    && is_local server owner
     && not (bytes_eq (sender_of event) owner)
     && (bytes_eq membership_after (codes "join") || invites event owner)
 
