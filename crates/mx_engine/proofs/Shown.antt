@@ -1,7 +1,7 @@
 -- What an engine shows tells what its history refuses, and goes on by an input as the history does.
 use Rattle.std.proofs.Common.{◌≡◌, ℕ, ◌+◌, List, [], ◌∷◌, ◌++◌, Bool, true, Option, Some, None, cond, refl, ap, sym, subst, ◌∙◌}
 use Rattle.std.specs.Prelude.{nat_le, option_map}
-use Rattle.std.specs.FinMap.{empty, insert}
+use Rattle.std.specs.FinMap.{empty, get, insert}
 use Rattle.std.specs.Option.{option_or}
 use Rattle.mx_json.specs.declared.value.Json.{Json}
 use Rattle.mx_edit.specs.declared.plan.EditPlan.{EditPlan}
@@ -10,9 +10,10 @@ use Rattle.mx_event.specs.Event.{event_id_of, room_id_of}
 use Rattle.mx_room.specs.Change.{sets_of, with_sets}
 use Rattle.mx_room.specs.Rooms.{PlannedRoom, room_at, rooms_of, with_room}
 use Rattle.mx_room.specs.State.{RoomState}
-use Rattle.mx_room.specs.Texts.{Texts}
+use Rattle.mx_room.specs.Texts.{Texts, table}
 use Rattle.mx_rule.specs.declared.edit.Edit.{Edit}
-use Rattle.mx_rule.specs.Editing.{edited}
+use Rattle.mx_rule.specs.declared.edit.EditRefusal.{EditRefusal}
+use Rattle.mx_rule.specs.Editing.{edited, refusal_of_edit}
 use Rattle.mx_rule.specs.Ruleset.{PushRuleset}
 use Rattle.mx_rows.specs.declared.thread_key.ThreadKey.{ThreadKey}
 use Rattle.mx_thread.specs.declared.place.Place.{Place}
@@ -20,17 +21,18 @@ use Rattle.mx_thread.specs.Place.{Places, place_in, thread_of}
 use Rattle.mx_records.specs.declared.input.Input.{Input}
 use Rattle.mx_records.specs.declared.input.Input.TheVariants.{Event, Edit as EditInput}
 use Rattle.mx_records.specs.declared.refusal.Refusal.{Refusal}
-use Rattle.mx_records.specs.declared.refusal.Refusal.TheVariants.{KnownEvent, Full}
+use Rattle.mx_records.specs.declared.refusal.Refusal.TheVariants.{KnownEvent, NotLocal, Full}
 use Rattle.mx_records.specs.History.{History, arrivals_after, events, inputs_of, with_input}
 use Rattle.mx_records.specs.Judging.{notices_in}
-use Rattle.mx_records.specs.Places.{places_of, position_of}
-use Rattle.mx_records.specs.Refusing.{most_inputs, refusal_of, refusal_of_content}
+use Rattle.mx_records.specs.Places.{places_of, position_of, with_place}
+use Rattle.mx_records.specs.Refusing.{most_inputs, refusal_by, refusal_of, refusal_of_content}
+use Rattle.mx_json.specs.Ids.{is_local}
 use Rattle.mx_records.specs.Rooms.{events_of, room_after}
-use Rattle.mx_records.specs.Rules.{edited_rules, rules_among, rules_of}
+use Rattle.mx_records.specs.Rules.{edited_rules, own_rules, rules_among, rules_of}
 use Rattle.mx_records.specs.Snapshot.{Notified, Snapshot, notified_by, snapshot_of}
 use Rattle.mx_records.proofs.HistoryLemmas.{next_event, room_after-next, snapshot_of-edit, snapshot_of-push}
 use Rattle.mx_records.proofs.PlacesLemmas.{position_of-places, with_place-new}
-use Rattle.mx_records.proofs.RulesLemmas.{rules_among-edited}
+use Rattle.mx_records.proofs.RulesLemmas.{get-edited_rules, rules_among-edited}
 use Rattle.mx_engine.specs.Planning.{adds, edits, Fits, IsPlannedFor, PlannedChange, PlannedEvent, Suits, with_change, with_edit, with_event}
 
 -- what is known before any input
@@ -70,7 +72,7 @@ content-found server h shown places event id found is same named answered =
     ∙ ap (λ id. option_map KnownEvent (option_map (λ (place : Place). place.position) (place_in places id))) (sym named)
     ∙ ap (λ found. option_map KnownEvent (option_map (λ (place : Place). place.position) found)) (sym answered)
 
--- ---- what an input leads to
+-- ---- what is known of the inputs and of rules
 
 pub inputs-shown : (server : List ℕ) (h : History) (shown : Snapshot) → shown ≡ snapshot_of server h
     → shown.inputs ≡ inputs_of h
@@ -82,6 +84,26 @@ pub rules-shown : (server : List ℕ) (h : History) (shown : Snapshot) → shown
     → rules_among server shown.rules ≡ rules_of server h
 unfolding snapshot_of
 rules-shown server h shown is = ap (λ (s : Snapshot). rules_among server s.rules) is ∙ rules_among-edited server h
+
+-- the rules of a user who edited them
+pub own-shown : (server : List ℕ) (h : History) (shown : Snapshot) (user : List ℕ) → shown ≡ snapshot_of server h
+    → get shown.rules user ≡ own_rules server h user
+unfolding snapshot_of
+own-shown server h shown user is = ap (λ (s : Snapshot). get s.rules user) is ∙ get-edited_rules server h user
+
+-- what a local user's edit is refused for
+pub content-edit : (server : List ℕ) (h : History) (shown : Snapshot) (user : List ℕ) (edit : Edit)
+    (refusal : Option EditRefusal)
+    → shown ≡ snapshot_of server h → is_local server user ≡ true
+    → refusal_of_edit (rules_among server shown.rules user) edit ≡ refusal
+    → refusal_of_content server h (EditInput user edit) ≡ option_map refusal_by refusal
+content-edit server h shown user edit refusal is local told =
+    ap (λ b. cond b (option_map refusal_by (refusal_of_edit (rules_of server h user) edit)) (Some NotLocal)) local
+    ∙ ap (λ (r : List ℕ → PushRuleset). option_map refusal_by (refusal_of_edit (r user) edit))
+    (sym (rules-shown server h shown is))
+    ∙ ap (option_map refusal_by) told
+
+-- ---- what an input leads to
 
 module _ (server : List ℕ) (h : History) (shown : Snapshot) (position : ℕ) (is : shown ≡ snapshot_of server h)
     (next : position ≡ shown.inputs + 1) where

@@ -5,7 +5,8 @@ ghost use Rattle.mx_edit.specs.Planning.{is_made_for, IsPlanOf};
 ghost use Rattle.mx_event.specs.Event.{event_id_of, room_id_of};
 ghost use Rattle.mx_records.specs.History.{History, position_after, with_input};
 ghost use Rattle.mx_records.specs.Counting.{counts_of};
-ghost use Rattle.mx_records.specs.Refusing.{is_local, most_inputs, refusal_of_content};
+ghost use Rattle.mx_records.specs.Refusing.{most_inputs, refusal_of_content};
+ghost use Rattle.mx_json.specs.Ids.{is_local};
 ghost use Rattle.mx_records.specs.Rules.{is_valid_input, own_rules, rules_among};
 ghost use Rattle.mx_records.specs.Snapshot.{is_highlighted_in, is_notified_in, snapshot_of};
 ghost use Rattle.mx_room.specs.Change.{sets_of};
@@ -258,7 +259,7 @@ impl Engine {
             → SaysOfContent
             (refusal_of_content self.now.server h (Input.Edit user.now edit.now)) result }
     {
-        if user.localpart_on(self.server()).is_none() {
+        if !user.is_local(self.server()) {
             return Err(PrepareError::Refused(Refusal::NotLocal));
         }
         match self.rules.plan(alloc, user, edit) {

@@ -5,7 +5,7 @@ ghost use Rattle.std.specs.Option.{option_copied};
 ghost use Rattle.mx_edit.specs.Planning.{is_made_for, planned, IsPlanOf, Tells};
 ghost use Rattle.mx_engine.specs.KeptRules.{shown_rules, users_in, AreKept, KeepsRules};
 ghost use Rattle.mx_records.specs.Judging.{verdict_in};
-ghost use Rattle.mx_records.specs.Refusing.{is_local};
+ghost use Rattle.mx_json.specs.Ids.{is_local};
 ghost use Rattle.mx_records.specs.Rules.{rules_among};
 ghost use Rattle.mx_rule.specs.Editing.{is_valid_edit, refusal_of_edit};
 ghost use Rattle.mx_rule.specs.Predefined.{predefined_rules};

@@ -6,7 +6,8 @@ use Rattle.mx_records.specs.declared.refusal.Refusal.TheVariants.{NotLocal}
 use Rattle.mx_json.specs.declared.value.Json.{Json}
 use Rattle.mx_records.specs.History.{History, with_input, position_after}
 use Rattle.mx_records.specs.Counting.{counts_of}
-use Rattle.mx_records.specs.Refusing.{refusal_of, is_local}
+use Rattle.mx_records.specs.Refusing.{refusal_of}
+use Rattle.mx_json.specs.Ids.{is_local}
 use Rattle.mx_records.specs.Rules.{rules_of}
 use Rattle.mx_rule.specs.Printed.{rules_object}
 use Rattle.mx_lines.specs.declared.command.Command.{Command}

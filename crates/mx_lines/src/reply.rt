@@ -1,7 +1,8 @@
 ghost use Rattle.std.specs.Prelude.{◌≡◌, ◌≤◌, ◌++◌, [], ◌∷◌, true, codes, take, vec_len, IfOk, OnOk, OnErr};
 ghost use Rattle.mx_json.specs.Json.{is_valid, largest_whole};
 ghost use Rattle.mx_records.specs.History.{History};
-ghost use Rattle.mx_records.specs.Refusing.{is_local, most_inputs, NamesAPosition};
+ghost use Rattle.mx_records.specs.Refusing.{most_inputs, NamesAPosition};
+ghost use Rattle.mx_json.specs.Ids.{is_local};
 ghost use Rattle.mx_records.specs.Snapshot.{snapshot_of};
 ghost use Rattle.mx_rule.specs.Predefined.{predefined_rules};
 ghost use Rattle.mx_rule.specs.Printed.{rules_object};

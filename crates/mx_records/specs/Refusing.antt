@@ -1,7 +1,7 @@
 -- Which inputs and questions a history refuses, and which inputs it may go on with: ours.
-use Rattle.std.specs.Prelude.{ℕ, ◌≤◌, List, ◌≡◌, Bool, nat_le, if◌then◌else◌, Option, None, Some, is_some, option_map}
+use Rattle.std.specs.Prelude.{ℕ, ◌≤◌, List, ◌≡◌, Bool, nat_le, if◌then◌else◌, Option, None, Some, option_map}
 use Rattle.std.specs.Option.{option_or}
-use Rattle.mx_json.specs.Ids.{localpart_of}
+use Rattle.mx_json.specs.Ids.{is_local}
 use Rattle.mx_event.specs.Event.{event_id_of}
 use Rattle.mx_rule.specs.declared.edit.EditRefusal.{EditRefusal}
 use Rattle.mx_rule.specs.declared.edit.EditRefusal.TheVariants as edit
@@ -13,10 +13,6 @@ use Rattle.mx_records.specs.declared.refusal.Refusal.TheVariants.{NotLocal, Know
 use Rattle.mx_records.specs.History.{History, inputs_of}
 use Rattle.mx_records.specs.Places.{position_of}
 use Rattle.mx_records.specs.Rules.{rules_of}
-
--- the user is one of this server
-abbrev pub is_local : List ℕ → List ℕ → Bool
-is_local server user = is_some (localpart_of server user)
 
 -- as many inputs as a history may have
 abbrev pub most_inputs : ℕ

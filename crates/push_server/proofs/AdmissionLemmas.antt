@@ -2,7 +2,7 @@
 use Rattle.std.proofs.Common.{◌≡◌, ℕ, ◌<◌, ◌≤◌, Bool, true, false, cond, List, ◌++◌, Result, Ok, Err, Option, None, Some, is_some, Bor, OnOk, length, nat_lt, refl, ap, sym, ◌∙◌, subst, arith}
 use Rattle.std.proofs.lemmas.Bool.Decides.{nat_tests}
 use Rattle.mx_records.specs.History.{History}
-use Rattle.mx_records.specs.Refusing.{is_local}
+use Rattle.mx_json.specs.Ids.{is_local}
 use Rattle.mx_records.specs.declared.refusal.Refusal.TheVariants.{NotLocal}
 use Rattle.mx_records.specs.Snapshot.{Snapshot, snapshot_of}
 use Rattle.mx_lines.specs.declared.command.Command.{Command}

@@ -13,6 +13,7 @@ returns-clause-exact c h is =
       inputs = c.self.inside.inputs;
       places = c.self.inside.places.places;
       rooms = c.self.inside.rooms.states;
+      rules = c.self.inside.rules.edited;
       notified = c.self.inside.notified.items;
     } in
     let same : shown ≡ c.args.self.now.shown = ap (λ (v : View). v.shown) c.self.view_is in
