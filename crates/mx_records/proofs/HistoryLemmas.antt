@@ -1,5 +1,5 @@
 -- How a history, and what is read off it, goes on by one input.
-use Rattle.std.proofs.Common.{◌≡◌, ℕ, ◌+◌, List, [], ◌∷◌, ◌++◌, length, map, refl, ap, sym, ◌∙◌}
+use Rattle.std.proofs.Common.{◌≡◌, ℕ, ◌+◌, List, [], ◌∷◌, ◌++◌, map, ap, sym, ◌∙◌}
 use Rattle.std.specs.FinMap.{insert}
 use Rattle.std.specs.List.{filter_map, fold}
 use Rattle.std.proofs.Common.{length-append}
@@ -7,21 +7,20 @@ use Rattle.std.proofs.lemmas.List.{append-nil, append_assoc, map-append}
 use Rattle.std.proofs.lemmas.List.Elements.{filter_map-append}
 use Rattle.std.proofs.lemmas.List.Sums.{fold-append}
 use Rattle.mx_json.specs.declared.value.Json.{Json}
-use Rattle.mx_event.specs.Event.{event_id_of, room_id_of}
+use Rattle.mx_event.specs.Event.{room_id_of}
 use Rattle.mx_rule.specs.declared.edit.Edit.{Edit}
 use Rattle.mx_rule.specs.Editing.{edited}
 use Rattle.mx_room.specs.Change.{sets_of, with_sets}
 use Rattle.mx_room.specs.Rooms.{room_at, rooms_of, with_room}
-use Rattle.mx_room.specs.State.{RoomState, room_of}
 use Rattle.mx_room.proofs.RoomsLemmas.{room_at-rooms_of, rooms_of-push}
 use Rattle.mx_room.proofs.StateLemmas.{room_of-push}
 use Rattle.mx_records.specs.declared.input.Input.{Input}
 use Rattle.mx_records.specs.declared.input.Input.TheVariants.{Event, Edit as EditInput}
-use Rattle.mx_records.specs.History.{History, Happening, Arrival, arrivals, arrivals_after, events, happening_of, inputs_of, with_input}
+use Rattle.mx_records.specs.History.{History, Happening, arrivals, arrivals_after, events, happening_of, inputs_of, with_input}
 use Rattle.mx_records.specs.Places.{places_of, with_place}
 use Rattle.mx_records.specs.Rooms.{events_of, room_after}
 use Rattle.mx_records.specs.Rules.{edited_rules, rules_of}
-use Rattle.mx_records.specs.Snapshot.{Snapshot, notified_by, snapshot_of}
+use Rattle.mx_records.specs.Snapshot.{notified_by, snapshot_of}
 use Rattle.mx_records.proofs.RulesLemmas.{edited_rules-edit, edited_rules-event}
 
 -- the event that comes after a history

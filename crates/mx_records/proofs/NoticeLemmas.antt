@@ -1,6 +1,6 @@
 -- Whom an event notifies is a member of its room; and what is unread, read off those who were notified.
 use Rattle.std.proofs.Common.{◌≡◌, ℕ, suc, Bool, true, false, cond, not, ◌&&◌, ◌||◌, List, [], ◌∷◌, length, map, filter, codes, Option, Some, None, ◌⊎◌, inl, inr, is_some, option_map, option_and_then, unwrap_or, refl, ap, subst, sym, ◌∙◌}
-use Rattle.std.specs.FinMap.{get, insert, keys}
+use Rattle.std.specs.FinMap.{get, keys}
 use Rattle.std.specs.List.{count_by, list_any}
 use Rattle.std.specs.Option.{option_map_or}
 use Rattle.std.specs.Str.{bytes_eq}
@@ -15,7 +15,7 @@ use Rattle.mx_room.specs.Facts.{facts_of}
 use Rattle.mx_room.specs.Members.{membership_at}
 use Rattle.mx_room.specs.Rooms.{events_in}
 use Rattle.mx_room.specs.State.{RoomState, member_by, room_of}
-use Rattle.mx_room.specs.Texts.{Texts, table}
+use Rattle.mx_room.specs.Texts.{Texts}
 use Rattle.mx_room.specs.declared.member.Member.{Member}
 use Rattle.mx_room.proofs.JoinedLemmas.{has_key}
 use Rattle.mx_room.proofs.StateLemmas.{room_of-push}
@@ -25,10 +25,10 @@ use Rattle.mx_rule.specs.Judged.{invites, is_judged, judged, verdict_by}
 use Rattle.mx_rule.specs.Ruleset.{PushRuleset, flat}
 use Rattle.mx_records.specs.Counting.{counts_of, is_in, is_unread, unread}
 use Rattle.mx_records.specs.History.{History, Happening, events}
-use Rattle.mx_records.specs.Judging.{highlights, notice_in, notice_of, notices_in, notifies, verdict_for, verdict_in}
+use Rattle.mx_records.specs.Judging.{highlights, notice_in, notice_of, notices_in, verdict_for}
 use Rattle.mx_records.specs.Rooms.{events_of, room_after}
 use Rattle.mx_records.specs.Rules.{rules_of}
-use Rattle.mx_records.specs.Snapshot.{Notified, Snapshot, counts_among, is_highlighted_in, is_notified_in, notified_by, snapshot_of}
+use Rattle.mx_records.specs.Snapshot.{Snapshot, counts_among, is_highlighted_in, is_notified_in, notified_by, snapshot_of}
 
 -- ---- who is notified is a member
 

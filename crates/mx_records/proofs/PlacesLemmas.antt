@@ -5,7 +5,6 @@ use Rattle.std.specs.FinMap.{empty, insert, get-empty}
 use Rattle.std.specs.List.{find, fold}
 use Rattle.std.specs.Option.{option_or}
 use Rattle.std.specs.Ordering.{nat_cmp}
-use Rattle.std.specs.Str.{bytes_eq}
 use Rattle.mx_event.specs.Event.{event_id_of}
 use Rattle.mx_room.proofs.TextsLemmas.{bytes_eq-flip, bytes_eq-same, get-put}
 use Rattle.mx_thread.specs.declared.place.Place.{Place}

@@ -3,12 +3,10 @@ use Rattle.std.proofs.Common.{◌≡◌, ℕ, Bool, true, false, cond, ◌||◌,
 use Rattle.std.specs.FinMap.{get, insert}
 use Rattle.std.specs.List.{cons_option, filter_map, fold, list_any}
 use Rattle.std.specs.Str.{bytes_eq}
-use Rattle.std.proofs.lemmas.List.{append-nil}
 use Rattle.std.proofs.lemmas.List.Elements.{filter_map-append}
 use Rattle.std.proofs.lemmas.List.Folds.{list_any-append}
 use Rattle.std.proofs.lemmas.List.Sums.{fold-append}
 use Rattle.mx_json.specs.declared.value.Json.{Json}
-use Rattle.mx_room.specs.Texts.{Texts, table}
 use Rattle.mx_room.proofs.TextsLemmas.{IsCovered, bytes_eq-itself, bytes_eq-same, get-table, same_table, table-set}
 use Rattle.mx_rule.specs.declared.edit.Edit.{Edit}
 use Rattle.mx_rule.specs.Editing.{edited}

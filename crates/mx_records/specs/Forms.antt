@@ -114,7 +114,7 @@ rule_fields json =
     (User, is_user_id (user_in json)) ∷ (KindField, is_some (kind_in json))
     ∷ (RuleId, is_rule_id (rule_id_in json)) ∷ []
 
--- the rule that is edited: its user, its kind and its id
+-- the rule that is edited: its user, its kind and its id; for private clauses
 abbrev pub rule_form : Json → Form (List ℕ × Kind × List ℕ)
 rule_form json = record {
   fields = rule_fields json;
@@ -125,13 +125,24 @@ rule_form json = record {
 abbrev pub actions_field : Json → FieldName × Bool
 actions_field json = (Actions, is_some (list_at (codes "actions") json))
 
+-- beside which rules a rule is to stand
+abbrev pub anchor_fields : Json → List (FieldName × Bool)
+anchor_fields json =
+    (Before, has_text_or_none (codes "before") json) ∷ (After, has_text_or_none (codes "after") json) ∷ []
+
+-- the rules that stand under `before` and under `after`; for private clauses
+abbrev pub anchors_form : Json → Form (Option (List ℕ) × Option (List ℕ))
+anchors_form json = record {
+  fields = anchor_fields json;
+  value = (text_at (codes "before") json, text_at (codes "after") json);
+}
+
 -- the fields of `rule_put`
 abbrev pub put_fields : Json → List (FieldName × Bool)
 put_fields json =
     rule_fields json
     ++ (actions_field json ∷ (Conditions, has_list_or_none (codes "conditions") json)
-    ∷ (Pattern, has_text_or_none (codes "pattern") json) ∷ (Before, has_text_or_none (codes "before") json)
-    ∷ (After, has_text_or_none (codes "after") json) ∷ [])
+    ∷ (Pattern, has_text_or_none (codes "pattern") json) ∷ anchor_fields json)
 
 -- `rule_put`
 abbrev pub put_form : Json → Form Input

@@ -6,7 +6,7 @@ ghost use Rattle.mx_json.specs.Gives.{Gives};
 ghost use Rattle.mx_json.specs.Ids.{is_user_id};
 ghost use Rattle.mx_json.specs.Json.{is_valid, text_at};
 ghost use Rattle.mx_rule.specs.Editing.{given_items};
-ghost use Rattle.mx_records.specs.Forms.{actions_field, actions_in, checked, given_list, has_list_or_none, has_text_or_none};
+ghost use Rattle.mx_records.specs.Forms.{actions_field, actions_in, anchors_form, checked, given_list, has_list_or_none, has_text_or_none};
 ghost use Rattle.mx_records.specs.Forms.{is_rule_id, kind_in, kind_named, rule_id_in, user_in, value_of_form};
 ghost use Rattle.mx_records.specs.Forms.{delete_form, enable_form, put_form, rule_form, set_actions_form};
 ghost use Rattle.mx_records.specs.Rules.{is_valid_input};
@@ -32,8 +32,7 @@ pub(crate) fn read_put(alloc: Global, json: &Json) -> Result<Input, InputError>
     let actions = read_actions(alloc, json)?;
     let conditions = list_or_none(alloc, json, "conditions", FieldName::Conditions)?;
     let pattern = text_or_none(alloc, json, "pattern", FieldName::Pattern)?;
-    let before = text_or_none(alloc, json, "before", FieldName::Before)?;
-    let after = text_or_none(alloc, json, "after", FieldName::After)?;
+    let (before, after) = read_anchors(alloc, json)?;
     Ok(Input::Edit {
         user,
         edit: Edit::Put {
@@ -183,6 +182,20 @@ fn read_actions(alloc: Global, json: &Json) -> Result<JsonList, InputError>
         return Err(InputError::BadField(FieldName::Actions));
     };
     Ok(actions.copied(alloc)?)
+}
+
+/// The rules beside which the rule is to stand: `before` and `after`.
+fn read_anchors(
+    alloc: Global,
+    json: &Json,
+) -> Result<(Option<JsonText>, Option<JsonText>), InputError>
+    requires { is_valid json.now ≡ true }
+    ensures { Gives InputError.OutOfMemory result
+        (value_of_form InputError.BadField (anchors_form json.now)) }
+{
+    let before = text_or_none(alloc, json, "before", FieldName::Before)?;
+    let after = text_or_none(alloc, json, "after", FieldName::After)?;
+    Ok((before, after))
 }
 
 /// The list under a key, if anything stands there.

@@ -4,8 +4,8 @@ use Rattle.mx_records.specs.declared.input.Input.TheVariants.{Edit}
 use Rattle.mx_json.specs.declared.value.Json.{Json}
 use Rattle.mx_json.specs.Json.{text_at}
 use Rattle.mx_records.specs.declared.field_name.FieldName.{FieldName}
-use Rattle.mx_records.specs.declared.field_name.FieldName.TheVariants.{After, Before, Conditions, Pattern}
-use Rattle.mx_records.specs.Forms.{actions_field, actions_in, given_list, has_list_or_none, has_text_or_none, put_fields, put_form, rule_fields, rule_form}
+use Rattle.mx_records.specs.declared.field_name.FieldName.TheVariants.{Conditions, Pattern}
+use Rattle.mx_records.specs.Forms.{actions_field, actions_in, anchor_fields, anchors_form, given_list, has_list_or_none, has_text_or_none, put_fields, put_form, rule_fields, rule_form}
 use Rattle.mx_records.proofs.FormLemmas.{AreRight, found-right, given-right, gives-refused, refused-first, refused-next, right-both}
 use Rattle.mx_records.proofs.edit_form.read_put.Goals as goal
 
@@ -20,12 +20,6 @@ conditions json = (Conditions, has_list_or_none (codes "conditions") json) ∷ [
 abbrev pattern : Json → List (FieldName × Bool)
 pattern json = (Pattern, has_text_or_none (codes "pattern") json) ∷ []
 
-abbrev before : Json → List (FieldName × Bool)
-before json = (Before, has_text_or_none (codes "before") json) ∷ []
-
-abbrev after : Json → List (FieldName × Bool)
-after json = (After, has_text_or_none (codes "after") json) ∷ []
-
 -- the fields as far as they were read, all right
 
 abbrev to_actions : Json → List (FieldName × Bool)
@@ -37,9 +31,6 @@ to_conditions json = to_actions json ++ conditions json
 abbrev to_pattern : Json → List (FieldName × Bool)
 to_pattern json = to_conditions json ++ pattern json
 
-abbrev to_before : Json → List (FieldName × Bool)
-to_before json = to_pattern json ++ before json
-
 module _ (json : Json) (rule : AreRight (rule_fields json)) (does : AreRight (actions json)) where
   right-actions : AreRight (to_actions json)
   right-actions = right-both (rule_fields json) (actions json) rule does
@@ -50,20 +41,16 @@ module _ (json : Json) (rule : AreRight (rule_fields json)) (does : AreRight (ac
   right-pattern : AreRight (conditions json) → AreRight (pattern json) → AreRight (to_pattern json)
   right-pattern asks seeks = right-both (to_conditions json) (pattern json) (right-conditions asks) seeks
 
-  right-before : AreRight (conditions json) → AreRight (pattern json) → AreRight (before json)
-      → AreRight (to_before json)
-  right-before asks seeks stands = right-both (to_pattern json) (before json) (right-pattern asks seeks) stands
-
-  right-after : AreRight (conditions json) → AreRight (pattern json) → AreRight (before json)
-      → AreRight (after json) → AreRight (put_fields json)
-  right-after asks seeks stands follows =
-      right-both (to_before json) (after json) (right-before asks seeks stands) follows
+  right-anchors : AreRight (conditions json) → AreRight (pattern json) → AreRight (anchor_fields json)
+      → AreRight (put_fields json)
+  right-anchors asks seeks stands =
+      right-both (to_pattern json) (anchor_fields json) (right-pattern asks seeks) stands
 
 pub returns-in_err-user-clause-input : goal.returns-in_err-user-clause-input
 returns-in_err-user-clause-input c =
     let json = c.args.json.now in
     gives-refused _ _ _ c.from_residual.ensures
-    (refused-first (rule_fields json) (actions json ++ conditions json ++ pattern json ++ before json ++ after json)
+    (refused-first (rule_fields json) (actions json ++ conditions json ++ pattern json ++ anchor_fields json)
     (rule_form json).value _ _ c.in_err-user.ensures)
 
 pub returns-in_err-actions-clause-input : goal.returns-in_err-actions-clause-input
@@ -71,7 +58,7 @@ returns-in_err-actions-clause-input c =
     let json = c.args.json.now in
     let rule = found-right (rule_fields json) (rule_form json).value _ c.in_ok-user.ensures in
     gives-refused _ _ _ c.from_residual-in_err-actions.ensures
-    (refused-next (rule_fields json) (actions json) (conditions json ++ pattern json ++ before json ++ after json)
+    (refused-next (rule_fields json) (actions json) (conditions json ++ pattern json ++ anchor_fields json)
     (actions_in json) _ _ rule.0 c.in_err-actions.ensures.actions)
 
 pub returns-in_err-conditions-clause-input : goal.returns-in_err-conditions-clause-input
@@ -80,7 +67,7 @@ returns-in_err-conditions-clause-input c =
     let rule = found-right (rule_fields json) (rule_form json).value _ c.in_ok-user.ensures in
     let does = found-right (actions json) (actions_in json) _ c.in_ok-actions.ensures.actions in
     gives-refused _ _ _ c.from_residual-in_err-conditions.ensures
-    (refused-next (to_actions json) (conditions json) (pattern json ++ before json ++ after json)
+    (refused-next (to_actions json) (conditions json) (pattern json ++ anchor_fields json)
     (given_list (codes "conditions") json) _ _ (right-actions json rule.0 does.0) c.in_err-conditions.ensures.list)
 
 pub returns-in_err-pattern-clause-input : goal.returns-in_err-pattern-clause-input
@@ -90,7 +77,7 @@ returns-in_err-pattern-clause-input c =
     let does = found-right (actions json) (actions_in json) _ c.in_ok-actions.ensures.actions in
     let asks = found-right (conditions json) (given_list (codes "conditions") json) _ c.in_ok-conditions.ensures.list in
     gives-refused _ _ _ c.from_residual-in_err-pattern.ensures
-    (refused-next (to_conditions json) (pattern json) (before json ++ after json)
+    (refused-next (to_conditions json) (pattern json) (anchor_fields json)
     (text_at (codes "pattern") json) _ _ (right-conditions json rule.0 does.0 asks.0) c.in_err-pattern.ensures)
 
 pub returns-in_err-before-clause-input : goal.returns-in_err-before-clause-input
@@ -101,20 +88,8 @@ returns-in_err-before-clause-input c =
     let asks = found-right (conditions json) (given_list (codes "conditions") json) _ c.in_ok-conditions.ensures.list in
     let seeks = found-right (pattern json) (text_at (codes "pattern") json) _ c.in_ok-pattern.ensures in
     gives-refused _ _ _ c.from_residual-in_err-before.ensures
-    (refused-next (to_pattern json) (before json) (after json)
-    (text_at (codes "before") json) _ _ (right-pattern json rule.0 does.0 asks.0 seeks.0) c.in_err-before.ensures)
-
-pub returns-in_err-after-clause-input : goal.returns-in_err-after-clause-input
-returns-in_err-after-clause-input c =
-    let json = c.args.json.now in
-    let rule = found-right (rule_fields json) (rule_form json).value _ c.in_ok-user.ensures in
-    let does = found-right (actions json) (actions_in json) _ c.in_ok-actions.ensures.actions in
-    let asks = found-right (conditions json) (given_list (codes "conditions") json) _ c.in_ok-conditions.ensures.list in
-    let seeks = found-right (pattern json) (text_at (codes "pattern") json) _ c.in_ok-pattern.ensures in
-    let stands = found-right (before json) (text_at (codes "before") json) _ c.in_ok-before.ensures in
-    gives-refused _ _ _ c.from_residual-in_err-after.ensures
-    (refused-next (to_before json) (after json) [] (text_at (codes "after") json) _ _
-    (right-before json rule.0 does.0 asks.0 seeks.0 stands.0) c.in_err-after.ensures)
+    (refused-next (to_pattern json) (anchor_fields json) []
+    (anchors_form json).value _ _ (right-pattern json rule.0 does.0 asks.0 seeks.0) c.in_err-before.ensures)
 
 pub returns-clause-input : goal.returns-clause-input
 returns-clause-input c =
@@ -123,9 +98,8 @@ returns-clause-input c =
     let does = found-right (actions json) (actions_in json) _ c.in_ok-actions.ensures.actions in
     let asks = found-right (conditions json) (given_list (codes "conditions") json) _ c.in_ok-conditions.ensures.list in
     let seeks = found-right (pattern json) (text_at (codes "pattern") json) _ c.in_ok-pattern.ensures in
-    let stands = found-right (before json) (text_at (codes "before") json) _ c.in_ok-before.ensures in
-    let follows = found-right (after json) (text_at (codes "after") json) _ c.in_ok-after.ensures in
+    let stands = found-right (anchor_fields json) (anchors_form json).value _ c.in_ok-before.ensures in
     given-right (put_fields json) (put_form json).value
-    (right-after json rule.0 does.0 asks.0 seeks.0 stands.0 follows.0)
+    (right-anchors json rule.0 does.0 asks.0 seeks.0 stands.0)
     ∙ (λ i. Ok (Edit (rule.1 i).0 (Put (rule.1 i).1 (rule.1 i).2 (seeks.1 i) (asks.1 i) (does.1 i)
-    (stands.1 i) (follows.1 i))))
+    (stands.1 i).0 (stands.1 i).1)))
