@@ -66,12 +66,12 @@ abbrev pub separated : List ℕ → List Json → List ℕ
 separated before [] = []
 separated before (item ∷ items) = before ++ (canonical item ++ separated (codes ",") items)
 
--- the member of the conditions, with the comma before it; other criteria have none
+-- the conditions of an override or underride rule, as a member that comes after others
 abbrev pub conditions_text : Criterion → List ℕ
 conditions_text (Conditions conditions) = member_text (codes "conditions") (ListOf record { items = conditions })
 conditions_text other = []
 
--- the member of the pattern, with the comma before it; other criteria have none
+-- the pattern of a content rule, as a member that comes after others
 abbrev pub pattern_text : Criterion → List ℕ
 pattern_text (Word pattern) = member_text (codes "pattern") (Text pattern)
 pattern_text other = []
