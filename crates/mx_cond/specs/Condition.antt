@@ -74,6 +74,7 @@ wanted_by json = option_and_then (λ kind. wanted_of_kind kind json) (text_at (c
 abbrev pub or_bad : {A : Type 0} → Option A → Result A ConditionError
 or_bad found = ok_or found BadCondition
 
+-- the value is a condition
 abbrev pub is_condition : Json → Bool
 is_condition json = is_some (wanted_by json)
 

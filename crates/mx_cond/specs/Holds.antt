@@ -1,6 +1,5 @@
 -- When a condition holds: the Client-Server API v1.11, "Conditions for push rules", kind by kind.
-use Rattle.std.specs.Prelude.{◌≡◌, ◌≢◌, ℕ, ◌≤ℤ◌, Bool, false, ◌&&◌, List, [], ◌∷◌, codes, Option, Some, option_and_then, IsSomeAnd, MatchBool, Any}
-use Rattle.std.specs.Str.{bytes_eq}
+use Rattle.std.specs.Prelude.{◌≡◌, ◌≢◌, ℕ, ◌≤ℤ◌, Bool, true, false, List, [], Option, Some, option_and_then, option_map, unwrap_or, IsSomeAnd, MatchBool, Any}
 use Rattle.mx_json.specs.declared.value.Json.{Json, out-Json}
 use Rattle.mx_json.specs.declared.value.Json.TheOpen.{Json-F}
 use Rattle.mx_json.specs.declared.value.JsonList.{JsonList}
@@ -13,17 +12,13 @@ use Rattle.mx_glob.specs.Words.{HasWord, WordMatches}
 use Rattle.mx_cond.specs.declared.plain.Plain.{Plain}
 use Rattle.mx_cond.specs.declared.wanted.Wanted.{Wanted}
 use Rattle.mx_cond.specs.declared.wanted.Wanted.TheVariants.{EventMatch, EventPropertyIs, EventPropertyContains, RoomMemberCount, SenderNotificationPermission, ContainsDisplayName, Unknown}
+pub use Rattle.mx_cond.specs.Body.{body_path, is_body}
 use Rattle.mx_cond.specs.Condition.{plain_of, wanted_by}
 use Rattle.mx_cond.specs.Facts.{EventFacts}
 use Rattle.mx_cond.specs.MemberCount.{IsAsAsked}
 use Rattle.mx_cond.specs.PowerLevels.{needed_power}
 
 -- ---- event_match
-
--- the path is `content`, `body`
-abbrev pub is_body : List (List ℕ) → Bool
-is_body (first ∷ second ∷ []) = bytes_eq first (codes "content") && bytes_eq second (codes "body")
-is_body other = false
 
 -- the glob matches a text: a word of it where the path is that of the body, else the whole
 abbrev pub MatchesAt : List (List ℕ) → List ℕ → List ℕ → Type 0
@@ -51,6 +46,7 @@ abbrev pub top_members : Json-F Json JsonList JsonObject → List Json
 top_members (Json-F.List list) = list.items
 top_members other = []
 
+-- the members of a value: those of a list, and none for any other
 abbrev pub members_of : Json → List Json
 members_of json = top_members (out-Json json)
 
@@ -59,10 +55,6 @@ abbrev pub HasMember : List (List ℕ) → Json → Plain → Type 0
 HasMember path event value = IsSomeAnd (look path event) (λ found. Any (Equals value) (members_of found))
 
 -- ---- contains_display_name
-
--- where the body of a message stands
-abbrev pub body_path : List (List ℕ)
-body_path = codes "content" ∷ codes "body" ∷ []
 
 -- the owner has a name that isn't empty, and the body is a text that has it as a word, case apart
 abbrev pub NamesOwner : Option (List ℕ) → Json → Type 0
@@ -91,3 +83,14 @@ IsMet Unknown facts = ⊥
 -- a condition holds of the facts; what is no condition doesn't
 abbrev pub Holds : Json → EventFacts → Type 0
 Holds condition facts = IsSomeAnd (wanted_by condition) (λ wanted. IsMet wanted facts)
+
+-- ---- what the owner's name may change
+
+-- what is wanted is of the owner's name
+abbrev pub wants_name : Wanted → Bool
+wants_name ContainsDisplayName = true
+wants_name other = false
+
+-- a condition may hold for one owner and not for another: so a contains_display_name alone
+abbrev pub depends_on_owner : Json → Bool
+depends_on_owner condition = unwrap_or (option_map wants_name (wanted_by condition)) false

@@ -1,3 +1,4 @@
+pub mod Body
 pub mod Condition
 pub mod Facts
 pub mod Holds

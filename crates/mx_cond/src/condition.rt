@@ -1,9 +1,9 @@
-ghost use Rattle.std.specs.Prelude.{◌≡◌, ◌↔◌, true, IfOk, IsTrue};
+ghost use Rattle.std.specs.Prelude.{◌≡◌, ◌↔◌, ℕ, true, false, List, Option, IfOk, IsTrue};
 ghost use Rattle.mx_json.specs.Gives.{Gives};
 ghost use Rattle.mx_json.specs.Json.{is_valid};
 ghost use Rattle.mx_cond.specs.Condition.{is_condition, read_condition};
-ghost use Rattle.mx_cond.specs.Facts.{told_by};
-ghost use Rattle.mx_cond.specs.Holds.{Holds};
+ghost use Rattle.mx_cond.specs.Facts.{EventFacts, told_by};
+ghost use Rattle.mx_cond.specs.Holds.{Holds, depends_on_owner};
 
 use crate::error::ConditionError;
 use crate::facts::Facts;
@@ -83,21 +83,31 @@ impl Condition {
     }
 
     /// Whether the condition holds of the facts (Client-Server API v1.11, "Conditions for push
-    /// rules"). A pattern or a name is compared case apart, by full case folding, and takes memory
-    /// only to fold the text that it is compared with.
+    /// rules"). A pattern or a name is compared case apart, by full case folding. Only the scratch
+    /// takes memory, for the texts that are compared and aren't in it.
     ///
     /// # Errors
     ///
     /// `OutOfMemory` where the allocator has none.
     pub fn holds(
         &self,
-        alloc: Global,
+        _alloc: Global,
         facts: &Facts,
         scratch: &mut Scratch,
     ) -> Result<bool, OutOfMemory>
         ensures { IfOk result (λ holds. IsTrue holds ↔ Holds self.now (told_by facts.now)) }
     {
-        self.wanted.is_met(alloc, facts, scratch)
+        self.wanted.is_met(facts, scratch)
+    }
+
+    /// Whether it may hold for one owner of the rules and not for another in the same room, with the
+    /// same event: so a contains_display_name alone.
+    pub fn depends_on_owner(&self) -> bool
+        ensures exactly { result ≡ depends_on_owner self.now }
+        ensures otherwise { result ≡ false → (facts : EventFacts) (name : Option (List ℕ))
+            → Holds self.now facts ↔ Holds self.now (record facts { owner_name = name }) }
+    {
+        self.wanted.wants_name()
     }
 
     /// An equal condition of its own.

@@ -10,6 +10,7 @@ ghost use Rattle.mx_cond.specs.declared.wanted.Wanted.TheVariants.{EventMatch, E
 use crate::count::count_asked;
 use crate::error::ConditionError;
 use crate::plain::Plain;
+use crate::text_path::TextPath;
 use crate::wanted::Wanted;
 use mx_glob::{Glob, GlobError};
 use mx_json::{Json, JsonText, Path};
@@ -50,7 +51,7 @@ fn event_match(alloc: Global, json: &Json) -> Result<Wanted, ConditionError>
 {
     let path = path_in(alloc, json)?;
     let glob = pattern_in(alloc, json)?;
-    Ok(Wanted::EventMatch(path, glob))
+    Ok(Wanted::EventMatch(TextPath::new(path), glob))
 }
 
 fn event_property_is(alloc: Global, json: &Json) -> Result<Wanted, ConditionError>

@@ -2,7 +2,7 @@
 //!
 //! A condition is seen as the JSON value that it was read from, and power levels as the content of
 //! their event, so that both are cited by definitions over plain data. Patterns are folded when a
-//! condition is read; the values that they are tried on are folded each time.
+//! condition is read, and the texts that they are tried on when they aren't in the scratch.
 #![tactic(auto)]
 
 mod condition;
@@ -12,10 +12,11 @@ mod facts;
 mod kinds;
 mod plain;
 mod power;
+mod text_path;
 mod wanted;
 
 pub use condition::Condition;
 pub use error::ConditionError;
 pub use facts::Facts;
 pub use power::PowerTable;
-pub use wanted::body_of;
+pub use text_path::body_of;

@@ -1,24 +1,22 @@
-ghost use Rattle.std.specs.Prelude.{◌≡◌, ◌↔◌, option_and_then, Any, IfOk, IsTrue};
+ghost use Rattle.std.specs.Prelude.{◌≡◌, ◌↔◌, Any, IfOk, IsTrue};
 ghost use Rattle.std.specs.Option.{option_copied};
-ghost use Rattle.mx_json.specs.Json.{text_of};
-ghost use Rattle.mx_json.specs.Path.{look};
 ghost use Rattle.mx_cond.specs.Facts.{told_by};
-ghost use Rattle.mx_cond.specs.Holds.{body_path, is_body, Equals, HasMember, HasText, HasValue, IsMet, MatchesAt, NamesOwner};
+ghost use Rattle.mx_cond.specs.Holds.{wants_name, Equals, HasMember, HasText, HasValue, IsMet, MatchesAt, NamesOwner};
 ghost use Rattle.mx_cond.specs.MemberCount.{IsAsAsked};
 
 use crate::count::MemberCount;
 use crate::facts::Facts;
 use crate::plain::Plain;
+use crate::text_path::{TextPath, body_of};
 use mx_event::Event;
-use mx_glob::{Glob, Scratch, word_literal};
-use mx_json::{Folded, Json, JsonText, Meter, OutOfMemory, Path};
-use std::alloc::Global;
+use mx_glob::{Glob, Scratch, name_of_text};
+use mx_json::{Json, JsonText, Meter, OutOfMemory, Path};
 
 /// What a condition wants of the facts, kind by kind, ready to be tried: its path is cut into
 /// segments, and its pattern is folded.
 #[derive(Drop)]
 pub enum Wanted {
-    EventMatch(Path, Glob),
+    EventMatch(TextPath, Glob),
     EventPropertyIs(Path, Plain),
     EventPropertyContains(Path, Plain),
     RoomMemberCount(Option<MemberCount>),
@@ -29,65 +27,51 @@ pub enum Wanted {
 
 impl Wanted {
     /// Whether the facts are so.
-    pub fn is_met(
-        &self,
-        alloc: Global,
-        facts: &Facts,
-        scratch: &mut Scratch,
-    ) -> Result<bool, OutOfMemory>
+    pub fn is_met(&self, facts: &Facts, scratch: &mut Scratch) -> Result<bool, OutOfMemory>
         ensures { IfOk result (λ met. IsTrue met ↔ IsMet self.now (told_by facts.now)) }
     {
         match self {
-            Wanted::EventMatch(path, glob) => {
-                text_matches(alloc, facts.event, path, glob, scratch)
-            }
+            Wanted::EventMatch(path, glob) => text_matches(facts.event, path, glob, scratch),
             Wanted::EventPropertyIs(path, value) => Ok(has_value(facts.event, path, value)),
             Wanted::EventPropertyContains(path, value) => Ok(has_member(facts.event, path, value)),
             Wanted::RoomMemberCount(asked) => Ok(is_as_asked(asked, facts.joined)),
             Wanted::SenderNotificationPermission(key) => {
                 Ok(facts.powers.needed(key.as_str()) <= facts.sender_power)
             }
-            Wanted::ContainsDisplayName => names_owner(alloc, facts.event, facts.owner_name),
+            Wanted::ContainsDisplayName => names_owner(facts.event, facts.owner_name, scratch),
             Wanted::Unknown => Ok(false),
+        }
+    }
+
+    /// Whether it looks at the owner's name.
+    pub fn wants_name(&self) -> bool
+        ensures { result ≡ wants_name self.now }
+    {
+        match self {
+            Wanted::ContainsDisplayName => true,
+            _ => false,
         }
     }
 }
 
 fn text_matches(
-    alloc: Global,
     event: &Event,
-    path: &Path,
+    path: &TextPath,
     glob: &Glob,
     scratch: &mut Scratch,
 ) -> Result<bool, OutOfMemory>
     ensures { IfOk result
         (λ matches. IsTrue matches ↔ HasText path.now event.now (MatchesAt path.now glob.now)) }
 {
-    let Some(text) = text_under(event, path) else {
+    let Some(text) = path.text(event) else {
         return Ok(false);
     };
-    let text = Folded::of(alloc, text)?;
     let mut meter = Meter::new();
-    if is_body(path) {
-        Ok(glob.word(&text, scratch, &mut meter))
+    if path.is_body() {
+        glob.word_of_text(text, scratch, &mut meter)
     } else {
-        Ok(glob.whole(&text, scratch, &mut meter))
+        glob.whole_text(text, scratch, &mut meter)
     }
-}
-
-fn is_body(path: &Path) -> bool
-    ensures { result ≡ is_body path.now }
-{
-    match path.segments() {
-        [first, second] => first.as_str() == "content" && second.as_str() == "body",
-        _ => false,
-    }
-}
-
-fn text_under<'a>(event: &'a Event, path: &Path) -> Option<&'a str>
-    ensures { option_copied result ≡ option_and_then text_of (look path.now event.now) }
-{
-    event.json().look(path)?.as_text()
 }
 
 fn has_value(event: &Event, path: &Path, value: &Plain) -> bool
@@ -128,7 +112,11 @@ fn is_as_asked(asked: &Option<MemberCount>, joined: u64) -> bool
     }
 }
 
-fn names_owner(alloc: Global, event: &Event, owner_name: Option<&str>) -> Result<bool, OutOfMemory>
+fn names_owner(
+    event: &Event,
+    owner_name: Option<&str>,
+    scratch: &mut Scratch,
+) -> Result<bool, OutOfMemory>
     ensures { IfOk result
         (λ names. IsTrue names ↔ NamesOwner (option_copied owner_name.entry) event.now) }
 {
@@ -141,14 +129,5 @@ fn names_owner(alloc: Global, event: &Event, owner_name: Option<&str>) -> Result
     let Some(body) = body_of(event) else {
         return Ok(false);
     };
-    let name = Folded::of(alloc, name)?;
-    let body = Folded::of(alloc, body)?;
-    Ok(word_literal(&name, &body, &mut Meter::new()))
-}
-
-/// The body of the event's message, `content.body`; `None` exactly where that isn't a text.
-pub fn body_of(event: &Event) -> Option<&str>
-    ensures { option_copied result ≡ option_and_then text_of (look body_path event.now) }
-{
-    event.json().member("content")?.text_at("body")
+    name_of_text(name, body, scratch, &mut Meter::new())
 }

@@ -9,7 +9,8 @@ use Rattle.mx_event.specs.declared.error.EventError.{EventError}
 use Rattle.mx_event.specs.declared.error.EventError.TheVariants.{BadEvent, OutOfMemory}
 use Rattle.mx_event.specs.declared.error.EventField.{EventField}
 use Rattle.mx_event.specs.declared.error.EventField.TheVariants.{EventId, RoomId, Sender}
-use Rattle.mx_event.specs.Event.{checked, event_id_of, fields_after_the_ids, fields_of, first_wrong, first_wrong_field, has_content, has_kind, HoldsEvent, is_event, read_event, room_id_of, sender_of}
+use Rattle.mx_event.specs.declared.places.Places.{Places}
+use Rattle.mx_event.specs.Event.{ArePlacesIn, checked, event_id_of, fields_after_the_ids, fields_of, first_wrong, first_wrong_field, has_content, has_kind, HoldsEvent, is_event, read_event, room_id_of, sender_of}
 
 -- what a tested field tells
 checked_right : {A : Type 0} (field : EventField) (is_right : Bool) (value found : A) → checked field is_right value ≡ Ok found → (is_right ≡ true) × (value ≡ found)
@@ -80,8 +81,8 @@ pub read_event-right : (json : Json) (event_id room_id sender : List ℕ) → Ha
 read_event-right json event_id room_id sender ids is =
     rw (first_wrong_field-after_the_ids json event_id room_id sender ids, ← is)
 
-pub HoldsEvent-from : (json : Json) (event_id room_id sender : List ℕ) → is_valid json ≡ true → HasIds json event_id room_id sender → None ≡ first_wrong (fields_after_the_ids json) → HoldsEvent json event_id room_id sender
-HoldsEvent-from json event_id room_id sender valid ids is =
+pub HoldsEvent-from : (json : Json) (event_id room_id sender : List ℕ) (places : Places) → is_valid json ≡ true → HasIds json event_id room_id sender → None ≡ first_wrong (fields_after_the_ids json) → ArePlacesIn json places → HoldsEvent json event_id room_id sender places
+HoldsEvent-from json event_id room_id sender places valid ids is placed =
     let right = checked_right EventId (is_event_id (event_id_of json)) (event_id_of json) event_id ids.event in
     let right_2 = checked_right RoomId (is_room_id (room_id_of json)) (room_id_of json) room_id ids.room in
     let right_3 = checked_right Sender (is_user_id (sender_of json)) (sender_of json) sender ids.from in
@@ -91,6 +92,7 @@ HoldsEvent-from json event_id room_id sender valid ids is =
       event_id_is = sym right.1;
       room_id_is = sym right_2.1;
       sender_is = sym right_3.1;
+      places_are = placed;
     }
 
 -- an event has a content

@@ -1,37 +1,51 @@
 -- What an event of a room is and what is read off it: the fields of the Client-Server API's 'Room event format', in a profile of our own.
-use Rattle.std.specs.Prelude.{◌≡◌, ℕ, nat_le, Bool, true, false, if◌then◌else◌, List, [], ◌∷◌, length, codes, Option, Some, None, is_none, option_map, unwrap_or, Result, Ok, Err}
+use Rattle.std.specs.Prelude.{◌≡◌, ℕ, nat_le, Bool, true, false, if◌then◌else◌, List, [], ◌∷◌, length, codes, Option, Some, None, is_none, is_some, option_and_then, option_map, unwrap_or, Result, Ok, Err}
 use Rattle.std.specs.Option.{option_map_or}
 use Rattle.std.specs.Str.{bytes_eq}
 use Rattle.mx_json.specs.declared.value.Json.{Json, Null}
 use Rattle.mx_json.specs.Ids.{is_event_id, is_room_id, is_user_id}
-use Rattle.mx_json.specs.Json.{is_object, is_valid, member, text_at, text_of, text_or_empty}
+use Rattle.mx_json.specs.Json.{is_object, is_valid, member, member_at, text_at, text_of, text_or_empty}
 use Rattle.mx_event.specs.declared.error.EventError.{EventError}
 use Rattle.mx_event.specs.declared.error.EventError.TheVariants.{BadEvent}
 use Rattle.mx_event.specs.declared.error.EventField.{EventField}
 use Rattle.mx_event.specs.declared.error.EventField.TheVariants.{EventId, RoomId, Sender, Kind, Content, StateKey}
+use Rattle.mx_event.specs.declared.places.Places.{Places}
 use Rattle.mx_event.specs.declared.relation.Relation.{Relation}
 use Rattle.mx_event.specs.declared.relation.Relation.TheVariants.{Thread, Other, Nothing}
 
 -- ---- the fields
 
+-- the id of an event, empty where it has none
 abbrev pub event_id_of : Json → List ℕ
 event_id_of json = text_or_empty (codes "event_id") json
 
+-- the id of an event's room, empty where it has none
 abbrev pub room_id_of : Json → List ℕ
 room_id_of json = text_or_empty (codes "room_id") json
 
+-- who sent an event, empty where nobody is told
 abbrev pub sender_of : Json → List ℕ
 sender_of json = text_or_empty (codes "sender") json
 
+-- the type of an event, empty where it has none
 abbrev pub kind_of : Json → List ℕ
 kind_of json = text_or_empty (codes "type") json
 
+-- the content of an event, `null` where it has none
 abbrev pub content_of : Json → Json
 content_of json = unwrap_or (member (codes "content") json) Null
 
 -- the state key of a state event; other events have none
 abbrev pub state_key_of : Json → Option (List ℕ)
 state_key_of json = text_at (codes "state_key") json
+
+-- the body of a message: `content.body`, where that is a text
+abbrev pub body_of : Json → Option (List ℕ)
+body_of json = text_at (codes "body") (content_of json)
+
+-- the event says itself whom it mentions: its content has the key `m.mentions`, whatever the value
+abbrev pub has_mentions : Json → Bool
+has_mentions json = is_some (member (codes "m.mentions") (content_of json))
 
 -- ---- when a value is an event
 
@@ -55,6 +69,7 @@ has_content json = option_map_or is_object (member (codes "content") json) false
 abbrev pub has_state_key_or_none : Json → Bool
 has_state_key_or_none json = option_map_or is_short_text (member (codes "state_key") json) true
 
+-- the fields after the ids, each with whether it is right
 abbrev pub fields_after_the_ids : Json → List (EventField × Bool)
 fields_after_the_ids json =
     (Kind, has_kind json)
@@ -79,6 +94,7 @@ abbrev pub first_wrong : {A : Type 0} → List (A × Bool) → Option A
 first_wrong [] = None
 first_wrong (field ∷ fields) = if field.1 then first_wrong fields else Some field.0
 
+-- the first field of a value that keeps it from being an event
 unfoldable pub first_wrong_field : Json → Option EventField
 first_wrong_field json = first_wrong (fields_of json)
 
@@ -90,16 +106,30 @@ is_event json = is_none (first_wrong_field json)
 abbrev pub read_event : Json → Result Json EventError
 read_event json = option_map_or (λ field. Err (BadEvent field)) (first_wrong_field json) (Ok json)
 
--- what an `Event` holds: a valid event, and its ids
-pub record HoldsEvent (json : Json) (event_id room_id sender : List ℕ) : Type 0 where
+-- the member at a place that may be none; for private clauses
+abbrev pub member_placed : Option ℕ → Json → Option Json
+member_placed place json = option_and_then (λ at. member_at at json) place
+
+-- these are the places in an event, and in its content; for private clauses
+pub record ArePlacesIn (json : Json) (places : Places) : Type 0 where
+  pub kind_is : member_placed places.kind json ≡ member (codes "type") json
+  pub content_is : member_placed places.content json ≡ member (codes "content") json
+  pub state_key_is : member_placed places.state_key json ≡ member (codes "state_key") json
+  pub body_is : member_placed places.body (content_of json) ≡ member (codes "body") (content_of json)
+  pub mentions_are : places.has_mentions ≡ has_mentions json
+
+-- what an `Event` holds: a valid event, its ids, and the places in it
+pub record HoldsEvent (json : Json) (event_id room_id sender : List ℕ) (places : Places) : Type 0 where
   pub valid : is_valid json ≡ true
   pub event : is_event json ≡ true
   pub event_id_is : event_id ≡ event_id_of json
   pub room_id_is : room_id ≡ room_id_of json
   pub sender_is : sender ≡ sender_of json
+  pub places_are : ArePlacesIn json places
 
 -- ---- what an event relates to
 
+-- how an event relates to another
 pub data Related : Type 0 where
   -- it is in the thread of the event with this id
   in_thread : List ℕ → Related
@@ -124,6 +154,7 @@ relation_from None id = to_nothing
 abbrev pub relation_in : Json → Related
 relation_in relates_to = relation_from (text_at (codes "rel_type") relates_to) (text_at (codes "event_id") relates_to)
 
+-- what an event relates to, by the `m.relates_to` of its content
 unfoldable pub relation_of : Json → Related
 relation_of json = option_map_or relation_in (member (codes "m.relates_to") (content_of json)) to_nothing
 

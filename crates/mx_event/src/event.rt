@@ -1,11 +1,12 @@
-ghost use Rattle.std.specs.Prelude.{◌≡◌, true, IfOk, option_map};
+ghost use Rattle.std.specs.Prelude.{◌≡◌, true, codes, IfOk, option_map};
 ghost use Rattle.std.specs.Option.{option_copied};
 ghost use Rattle.mx_json.specs.Gives.{Gives};
-ghost use Rattle.mx_json.specs.Json.{is_valid};
-ghost use Rattle.mx_event.specs.Event.{content_of, event_id_of, is_event, kind_of, membership_of, read_event, related_by, relation_of, room_id_of, sender_of, state_key_of, told_membership};
+ghost use Rattle.mx_json.specs.Json.{is_valid, text_at};
+ghost use Rattle.mx_event.specs.Event.{body_of, content_of, event_id_of, has_mentions, is_event, kind_of, membership_of, read_event, related_by, relation_of, room_id_of, sender_of, state_key_of, told_membership};
 
 use crate::error::EventError;
 use crate::fields::{event_id_in, first_wrong_after_the_ids, room_id_in, sender_in};
+use crate::places::{Places, member_placed, places_in};
 use crate::relation::{Relation, relation_in};
 use mx_json::{EventId, Json, OutOfMemory, RoomId, UserId};
 use std::alloc::Global;
@@ -18,6 +19,7 @@ pub struct Event {
     event_id: EventId,
     room_id: RoomId,
     sender: UserId,
+    places: Places,
 }
 
 impl Model for Event {
@@ -34,7 +36,7 @@ impl Model for Event {
 
     ghost view = { λ event. event.json };
 
-    ghost invariant = { λ event. HoldsEvent event.json event.event_id event.room_id event.sender };
+    ghost invariant = { λ event. HoldsEvent event.json event.event_id event.room_id event.sender event.places };
 }
 
 impl Event {
@@ -54,11 +56,13 @@ impl Event {
         if let Some(field) = first_wrong_after_the_ids(&json) {
             return Err(EventError::BadEvent(field));
         }
+        let places = places_in(&json);
         Ok(Event {
             json,
             event_id,
             room_id,
             sender,
+            places,
         })
     }
 
@@ -87,7 +91,16 @@ impl Event {
     pub fn kind(&self) -> &str
         ensures { result.now ≡ kind_of self.now }
     {
-        self.json.text_or_empty("type")
+        match self.kind_text() {
+            Some(kind) => kind,
+            None => "",
+        }
+    }
+
+    fn kind_text(&self) -> Option<&str>
+        ensures { option_copied result ≡ text_at (codes "type") self.now }
+    {
+        member_placed(&self.json, self.places.kind)?.as_text()
     }
 
     /// Its content, an object.
@@ -95,7 +108,7 @@ impl Event {
         ensures content { result.now ≡ content_of self.now }
         ensures valid { is_valid result.now ≡ true }
     {
-        match self.json.member("content") {
+        match member_placed(&self.json, self.places.content) {
             Some(content) => content,
             None => unreachable!(),
         }
@@ -105,7 +118,21 @@ impl Event {
     pub fn state_key(&self) -> Option<&str>
         ensures { option_copied result ≡ state_key_of self.now }
     {
-        self.json.text_at("state_key")
+        member_placed(&self.json, self.places.state_key)?.as_text()
+    }
+
+    /// The body of a message, `content.body`; `None` exactly where that isn't a text.
+    pub fn body(&self) -> Option<&str>
+        ensures { option_copied result ≡ body_of self.now }
+    {
+        member_placed(self.content(), self.places.body)?.as_text()
+    }
+
+    /// Whether its content has the key `m.mentions` (Client-Server API, 'User and room mentions').
+    pub fn has_mentions(&self) -> bool
+        ensures { result ≡ has_mentions self.now }
+    {
+        self.places.has_mentions
     }
 
     /// The whole object.
@@ -164,6 +191,7 @@ impl Event {
             event_id: self.event_id.copied(alloc)?,
             room_id: self.room_id.copied(alloc)?,
             sender: self.sender.copied(alloc)?,
+            places: self.places,
         })
     }
 }

@@ -7,6 +7,7 @@
 mod error;
 mod event;
 mod fields;
+mod places;
 mod relation;
 
 pub use error::{EventError, EventField};

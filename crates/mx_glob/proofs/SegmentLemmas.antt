@@ -1,10 +1,8 @@
 -- A segment at the front of a pattern, and the first place of a segment.
-use Rattle.std.proofs.Common.{◌≡◌, ℕ, zero, suc, ◌+◌, ◌-◌, ◌<◌, ◌≤◌, Bool, List, [], ◌∷◌, ◌++◌, length, slice_get, IsTrue, MatchBool, ◌↔◌, inl, inr, refl, sym, subst, arith, eq-eqb, eqb-true}
+use Rattle.std.proofs.Common.{◌≡◌, ℕ, zero, suc, ◌+◌, ◌-◌, ◌<◌, ◌≤◌, Bool, List, [], ◌∷◌, ◌++◌, length, IsTrue, MatchBool, ◌↔◌, inl, inr, sym, subst, arith, eq-eqb, eqb-true}
 use Rattle.std.proofs.lemmas.Bool.{cases_lt}
 use Rattle.std.proofs.lemmas.List.{append-nil}
-use Rattle.std.proofs.lemmas.Option.{slice_get_past}
 use Rattle.mx_glob.specs.Glob.{star}
-use Rattle.mx_glob.specs.Words.{is_outside}
 use Rattle.mx_glob.specs.declared.rest.End.TheVariants.{Text, Word}
 use Rattle.mx_glob.specs.Leads.{TakesAt, FitsAt, IsPlain, IsPlace, IsEndPlace, Leads, LeadsOn, ends_at}
 

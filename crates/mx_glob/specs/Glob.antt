@@ -1,11 +1,11 @@
 -- When a glob pattern matches a text, over the characters of both (Client-Server API v1.11, "Conditions for push rules", event_match).
 use Rattle.std.specs.Prelude.{◌≡◌, ℕ, ◌≤◌, ◌==◌, List, [], ◌∷◌, drop, length, MatchBool}
 
--- '*'
+-- The character `*`.
 abbrev pub star : ℕ
 star = 42
 
--- '?'
+-- The character `?`.
 abbrev pub question : ℕ
 question = 63
 

@@ -3,11 +3,11 @@ use Rattle.std.specs.Prelude.{◌≡◌, ℕ, zero, suc, ◌≤◌, ◌==◌, Bo
 use Rattle.std.specs.Char.{is_ascii_alphanumeric}
 use Rattle.mx_glob.specs.Glob.{Matches}
 
--- '_'
+-- The character `_`.
 abbrev pub underscore : ℕ
 underscore = 95
 
--- A-Z a-z 0-9 _
+-- The character is one of `A-Z a-z 0-9 _`, of which words are made.
 abbrev pub is_word_character : ℕ → Bool
 is_word_character c = is_ascii_alphanumeric c || (c == underscore)
 

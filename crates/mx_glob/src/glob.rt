@@ -1,18 +1,19 @@
-ghost use Rattle.std.specs.Prelude.{◌≡◌, ◌+◌, ◌*◌, ◌≤◌, ◌↔◌, length, IsTrue};
+ghost use Rattle.std.specs.Prelude.{◌≡◌, ◌+◌, ◌*◌, ◌≤◌, ◌↔◌, length, IfOk, IsTrue};
 ghost use Rattle.mx_json.specs.Gives.{Gives};
-ghost use Rattle.mx_json.specs.Folded.{RisesAtMost};
+ghost use Rattle.mx_json.specs.Folded.{folded, RisesAtMost};
 ghost use Rattle.mx_glob.specs.Glob.{Matches};
 ghost use Rattle.mx_glob.specs.FoldedPattern.{folded_pattern};
 ghost use Rattle.mx_glob.specs.Words.{WordMatches};
 
 use crate::error::GlobError;
+use crate::held::Held;
 use crate::place::agrees;
 use crate::rest::{End, leads_on, split_star};
 use crate::scratch::Scratch;
 use crate::search::has_word;
-use crate::skips::is_name;
+use crate::skips::{begins_inside, is_literal};
 use crate::word::find_word;
-use mx_json::{Folded, Meter};
+use mx_json::{Folded, Meter, OutOfMemory};
 use std::alloc::Global;
 use std::marker::Model;
 
@@ -24,21 +25,24 @@ const MOST_BYTES: usize = 1024;
 #[derive(Drop)]
 pub struct Glob {
     pattern: Folded,
-    // Whether a word match may search for the pattern as it stands.
+    // Whether the pattern has no `*` and no `?`.
+    is_literal: bool,
+    // Whether it also begins inside a word: then a word match searches for it as it stands.
     is_name: bool,
 }
 
 // Contracts see the characters of the folded pattern.
 impl Model for Glob {
     ghost use Rattle.std.specs.Prelude.{List, ℕ, ◌≤◌, length, IsTrue};
-    ghost use Rattle.mx_glob.specs.Search.{IsName};
-    ghost use Rattle.mx_glob.specs.declared.scratch.TheConstants.{MOST_CHARACTERS};
+    ghost use Rattle.mx_glob.specs.Search.{IsLiteral, IsName};
+    ghost use Rattle.mx_glob.specs.declared.held.TheConstants.{MOST_CHARACTERS};
 
     ghost Value = { List ℕ };
 
     ghost view = { λ g. g.pattern };
 
     ghost invariant = { λ g. (length g.pattern ≤ MOST_CHARACTERS)
+        × (IsTrue g.is_literal → IsLiteral g.pattern)
         × (IsTrue g.is_name → IsName g.pattern) };
 }
 
@@ -55,13 +59,19 @@ impl Glob {
             return Err(GlobError::PatternTooLong);
         }
         let pattern = Folded::of(alloc, pattern)?;
-        let is_name = is_name(&pattern);
-        Ok(Glob { pattern, is_name })
+        let is_literal = is_literal(&pattern);
+        let is_name = is_literal && begins_inside(&pattern);
+        Ok(Glob {
+            pattern,
+            is_literal,
+            is_name,
+        })
     }
 
     /// Whether the glob matches the whole value. It takes no memory. With p characters of the
     /// folded pattern and v of the value it reads at most (p + 1)(v + 1) characters: each call of
-    /// `Folded::at` on the value counts, and the pattern is read once, into the scratch.
+    /// `Folded::at` on the value counts, and the pattern is read once, into the scratch. A pattern
+    /// without `*` and `?` isn't copied: there each call of `Folded::at` on it counts too.
     pub fn whole(&self, value: &Folded, scratch: &mut Scratch, meter: &mut Meter) -> bool
         ensures matches { IsTrue result ↔ Matches self.now value.now }
         ensures reads { RisesAtMost
@@ -69,8 +79,7 @@ impl Glob {
             meter.old
             meter.new }
     {
-        scratch.hold(&self.pattern, meter);
-        whole_of(scratch.held(self.pattern.len()), value, meter)
+        self.whole_in(value, &mut scratch.held, meter)
     }
 
     /// Whether the glob matches a word of the value: some part of it, the empty one included, with
@@ -86,12 +95,99 @@ impl Glob {
             meter.old
             meter.new }
     {
+        self.word_in(value, &mut scratch.held, meter)
+    }
+
+    /// The same as `whole`, on the folding of a text, which the scratch keeps.
+    ///
+    /// # Errors
+    ///
+    /// `OutOfMemory` where there is none for the text and its folding.
+    pub fn whole_text(
+        &self,
+        text: &str,
+        scratch: &mut Scratch,
+        meter: &mut Meter,
+    ) -> Result<bool, OutOfMemory>
+        ensures matches { IfOk result
+            (λ matches. IsTrue matches ↔ Matches self.now (folded text.now)) }
+        ensures reads { RisesAtMost
+            ((length self.now + 1) * (length (folded text.now) + 1))
+            meter.old
+            meter.new }
+    {
+        scratch.texts.ask(text)?;
+        Ok(self.whole_in(scratch.texts.folding(), &mut scratch.held, meter))
+    }
+
+    /// The same as `word`, on the folding of a text, which the scratch keeps.
+    ///
+    /// # Errors
+    ///
+    /// `OutOfMemory` where there is none for the text and its folding.
+    pub fn word_of_text(
+        &self,
+        text: &str,
+        scratch: &mut Scratch,
+        meter: &mut Meter,
+    ) -> Result<bool, OutOfMemory>
+        ensures matches { IfOk result
+            (λ matches. IsTrue matches ↔ WordMatches self.now (folded text.now)) }
+        ensures reads { RisesAtMost
+            ((length self.now + 1) * (length (folded text.now) + 1))
+            meter.old
+            meter.new }
+    {
+        scratch.texts.ask(text)?;
+        Ok(self.word_in(scratch.texts.folding(), &mut scratch.held, meter))
+    }
+
+    fn whole_in(&self, value: &Folded, held: &mut Held, meter: &mut Meter) -> bool
+        ensures matches { IsTrue result ↔ Matches self.now value.now }
+        ensures reads { RisesAtMost
+            ((length self.now + 1) * (length value.now + 1))
+            meter.old
+            meter.new }
+    {
+        if self.is_literal {
+            return equals(&self.pattern, value, meter);
+        }
+        held.hold(&self.pattern, meter);
+        whole_of(held.held(self.pattern.len()), value, meter)
+    }
+
+    fn word_in(&self, value: &Folded, held: &mut Held, meter: &mut Meter) -> bool
+        ensures matches { IsTrue result ↔ WordMatches self.now value.now }
+        ensures reads { RisesAtMost
+            ((length self.now + 1) * (length value.now + 1))
+            meter.old
+            meter.new }
+    {
         if self.is_name {
             return has_word(&self.pattern, value, meter);
         }
-        scratch.hold(&self.pattern, meter);
-        word_of(scratch.held(self.pattern.len()), value, meter)
+        held.hold(&self.pattern, meter);
+        word_of(held.held(self.pattern.len()), value, meter)
     }
+}
+
+/// Whether the value is the pattern, character by character.
+fn equals(pattern: &Folded, value: &Folded, meter: &mut Meter) -> bool
+    ensures equal { IsTrue result ↔ (value.now ≡ pattern.now) }
+    ensures reads { RisesAtMost
+        ((length pattern.now + 1) * (length value.now + 1))
+        meter.old
+        meter.new }
+{
+    if pattern.len() != value.len() {
+        return false;
+    }
+    for k in 0..pattern.len() {
+        if pattern.at(k, meter) != value.at(k, meter) {
+            return false;
+        }
+    }
+    true
 }
 
 /// Whether the pattern matches the whole value.

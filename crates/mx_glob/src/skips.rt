@@ -1,29 +1,34 @@
-ghost use Rattle.std.specs.Prelude.{◌≡◌, ◌-◌, ◌%◌, ◌<◌, ◌==◌, false, length, replicate, IsTrue, IfSome};
+ghost use Rattle.std.specs.Prelude.{◌≡◌, ◌-◌, ◌%◌, ◌<◌, ◌==◌, false, length, replicate, slice_get, IsTrue, IfSome};
 ghost use Rattle.mx_json.specs.Folded.{RisesAtMost};
 ghost use Rattle.mx_glob.specs.Glob.{star, question};
-ghost use Rattle.mx_glob.specs.Search.{AreSkips, IsName};
+ghost use Rattle.mx_glob.specs.Search.{AreSkips, IsLiteral};
+ghost use Rattle.mx_glob.specs.Words.{is_outside};
 
 use crate::word::is_outside;
 use mx_json::{Folded, Meter};
 
-/// Whether a pattern is itself, without `*` and `?`, and begins inside a word.
-pub(crate) fn is_name(pattern: &Folded) -> bool
-    ensures { IsTrue result → IsName pattern.now }
+/// Whether a pattern is itself, without `*` and `?`.
+pub(crate) fn is_literal(pattern: &Folded) -> bool
+    ensures { IsTrue result → IsLiteral pattern.now }
 {
     let mut meter = Meter::new();
-    if is_outside(pattern.at(0, &mut meter)) {
-        return false;
-    }
     for k in 0..pattern.len() {
-        if !is_literal(pattern.at(k, &mut meter)) {
+        if !is_itself(pattern.at(k, &mut meter)) {
             return false;
         }
     }
     true
 }
 
+/// Whether a pattern begins inside a word.
+pub(crate) fn begins_inside(pattern: &Folded) -> bool
+    ensures { IsTrue result → is_outside (slice_get pattern.now 0) ≡ false }
+{
+    !is_outside(pattern.at(0, &mut Meter::new()))
+}
+
 /// Whether a character of a pattern is itself.
-fn is_literal(character: Option<char>) -> bool
+fn is_itself(character: Option<char>) -> bool
     ensures { IsTrue result
         → IfSome character (λ c. (c == star ≡ false) × (c == question ≡ false)) }
 {

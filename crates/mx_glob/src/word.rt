@@ -1,11 +1,12 @@
-ghost use Rattle.std.specs.Prelude.{◌≡◌, ℕ, ◌+◌, ◌-◌, ◌*◌, ◌^◌, ◌<◌, ◌≤◌, ◌↔◌, length, drop, min, slice_get, IsTrue};
-ghost use Rattle.mx_json.specs.Folded.{RisesAtMost};
+ghost use Rattle.std.specs.Prelude.{◌≡◌, ℕ, ◌+◌, ◌-◌, ◌*◌, ◌^◌, ◌<◌, ◌≤◌, ◌↔◌, length, drop, min, slice_get, IfOk, IsTrue};
+ghost use Rattle.mx_json.specs.Folded.{folded, RisesAtMost};
 ghost use Rattle.mx_glob.specs.Leads.{FitsAt, TakesFirst, IsWordPlace, IsFirstFrom, tried};
 ghost use Rattle.mx_glob.specs.Words.{is_outside, character_before, HasWord};
 
 use crate::place::agrees;
+use crate::scratch::Scratch;
 use crate::search::has_word;
-use mx_json::{Folded, Meter};
+use mx_json::{Folded, Meter, OutOfMemory};
 
 /// Whether there is no character, or one that is no part of a word.
 pub(crate) fn is_outside(character: Option<char>) -> bool
@@ -133,4 +134,28 @@ pub fn word_literal(name: &Folded, value: &Folded, meter: &mut Meter) -> bool
         return find_word(&[], value, true, meter).is_some();
     }
     has_word(name, value, meter)
+}
+
+/// The same as `word_literal`, on the foldings of a name and of a text, which the scratch keeps: the
+/// name apart from the texts.
+///
+/// # Errors
+///
+/// `OutOfMemory` where there is none for the two and their foldings.
+pub fn name_of_text(
+    name: &str,
+    text: &str,
+    scratch: &mut Scratch,
+    meter: &mut Meter,
+) -> Result<bool, OutOfMemory>
+    ensures word { IfOk result
+        (λ word. IsTrue word ↔ HasWord (folded name.now) (folded text.now)) }
+    ensures reads { RisesAtMost
+        (2 * (length (folded name.now) + 1) * (length (folded text.now) + 1))
+        meter.old
+        meter.new }
+{
+    scratch.name.take(name)?;
+    scratch.texts.ask(text)?;
+    Ok(word_literal(scratch.name.folding(), scratch.texts.folding(), meter))
 }

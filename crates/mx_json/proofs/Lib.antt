@@ -15,3 +15,4 @@ pub mod ValidLemmas
 pub mod Utf8Lemmas
 pub mod RoundTrip
 pub mod ObjectLemmas
+pub mod FoldedLemmas

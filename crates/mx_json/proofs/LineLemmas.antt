@@ -1,13 +1,11 @@
 -- A canonical text is one line: no byte of it is below 32, so none is a line feed.
-use Rattle.std.proofs.Common.{◌≡◌, ℕ, ◌+◌, ◌<◌, ◌≤◌, ◌/◌, ◌%◌, ◌==◌, ℤ, pos, negsuc, Bool, true, false, cond, List, [], ◌∷◌, ◌++◌, map, codes, nat_lt, rules, refl, subst, sym, arith, zero, suc}
+use Rattle.std.proofs.Common.{◌≡◌, ℕ, ◌+◌, ◌<◌, ◌≤◌, ◌/◌, ◌%◌, ◌==◌, ℤ, pos, negsuc, Bool, true, false, cond, List, [], ◌∷◌, ◌++◌, map, codes, nat_lt, rules, refl, arith, zero, suc}
 use Rattle.std.proofs.lemmas.Bool.Decides.{nat_tests}
 use Rattle.std.specs.Fmt.{decimal, digits, digits_onto, digit_glyph, signed_decimal}
 use Rattle.std.specs.List.{join_with_byte}
 use Rattle.json.specs.Print.{escape, escape_byte, escape_letter, quoted}
-use Rattle.mx_json.specs.declared.value.Json.{Json, Null, Truth, Whole, Text, List as ListOf, Object, the_lemmas}
-use Rattle.mx_json.specs.declared.value.JsonList.{JsonList}
-use Rattle.mx_json.specs.declared.value.JsonObject.{JsonObject}
-use Rattle.mx_json.specs.Canonical.{canonical, list_text, object_text, pair_text}
+use Rattle.mx_json.specs.declared.value.Json.{Json, Null, Truth, Whole, Text, the_lemmas}
+use Rattle.mx_json.specs.Canonical.{canonical, pair_text}
 use Rattle.mx_json.proofs.CanonicalLemmas.{canonical-List, canonical-Object}
 use Rattle.mx_json.proofs.Induction.{Each, EachValue, every}
 use Rattle.mx_json.proofs.JsonLemmas.{with_value}

@@ -1,8 +1,8 @@
 -- A step down a path, and the object that it goes through.
-use Rattle.std.proofs.Common.{◌≡◌, ℕ, ◌+◌, ◌<◌, true, List, length, get_or, drop, Some, option_map, option_and_then, sym, ap, ◌∙◌}
+use Rattle.std.proofs.Common.{◌≡◌, ℕ, ◌+◌, ◌<◌, true, List, [], ◌∷◌, length, get_or, drop, Option, Some, None, is_some, MatchOption, option_map, option_and_then, arith, rules, sym, ap, ◌∙◌}
 use Rattle.std.proofs.lemmas.List.{at_drop_more}
 use Rattle.std.proofs.lemmas.Option.{slice_get-get_or}
-use Rattle.mx_json.specs.declared.value.Json.{Json, Object}
+use Rattle.mx_json.specs.declared.value.Json.{Json, Object, the_lemmas}
 use Rattle.mx_json.specs.declared.value.JsonObject.{JsonObject}
 use Rattle.mx_json.specs.Json.{is_canonical, is_valid, are_rising, member, member_in, IsMemberAt}
 use Rattle.mx_json.specs.Path.{look}
@@ -24,3 +24,14 @@ pub member_in_place : (key : List ℕ) (pairs : List (List ℕ × Json)) (at : �
     → IsMemberAt key pairs at → pair ≡ get_or pairs at pair → member_in key pairs ≡ Some pair.1
 member_in_place key pairs at pair found is =
     found.1 ∙ ap (option_map (λ p. p.1)) (slice_get-get_or pairs at pair found.0) ∙ sym (ap (λ p. Some p.1) is)
+
+pub member-Object : (key : List ℕ) (object : JsonObject) → member key (Object object) ≡ member_in key object.pairs
+member-Object key object = search (rules, the_lemmas)
+
+-- a place is found exactly where there is a member
+pub is_some-place : (key : List ℕ) (pairs : List (List ℕ × Json)) (place : Option ℕ)
+    → MatchOption place (member_in key pairs ≡ None) (λ at. IsMemberAt key pairs at) → is_some place ≡ is_some (member_in key pairs)
+is_some-place key pairs None none = ap is_some (sym none)
+is_some-place key [] (Some at) found = absurd (omega (arith, found.0))
+is_some-place key (pair ∷ pairs) (Some at) found =
+    ap is_some (sym (found.1 ∙ ap (option_map (λ p. p.1)) (slice_get-get_or (pair ∷ pairs) at pair found.0)))

@@ -1,9 +1,8 @@
 -- Reading a value whose numbers are whole, member by member.
-use Rattle.std.proofs.Common.{◌≡◌, ◌⊎◌, inl, inr, ℕ, ◌+◌, ◌<◌, ◌≤◌, ℤ, nat_abs, pos, negsuc, w64, to_z, of_z, FitsSigned, Bool, true, false, List, [], ◌∷◌, ◌++◌, get_or, length, drop, append_assoc, append-nil, Some, None, Ok, Err, String, Vec, BTreeMap, Global, string_bytes, arith, refl, sym, ap, ◌∙◌, rules}
+use Rattle.std.proofs.Common.{◌≡◌, ◌⊎◌, inl, inr, ℕ, ◌≤◌, ℤ, nat_abs, pos, negsuc, w64, to_z, of_z, FitsSigned, Bool, true, false, List, [], ◌∷◌, ◌++◌, length, append_assoc, append-nil, Some, None, Ok, Err, String, Vec, BTreeMap, Global, string_bytes, arith, refl, rules}
 use Rattle.std.proofs.lemmas.Bool.{leb-true}
 use Rattle.std.proofs.lemmas.Int.{to_z-of_z}
 use Rattle.std.proofs.lemmas.Option.{cond_some, option_and_then_some}
-use Rattle.std.proofs.lemmas.List.{at_drop_more, drop_all}
 use Rattle.serde_json.specs.Data.{Num, Data, null, boolean, number, string, Items, no_items, item}
 use Rattle.serde_json.specs.Find.{as_i64}
 use Rattle.serde_json.specs.View.{view, items_view, members_view, number_view}
@@ -107,21 +106,15 @@ whole_items-end : (done : List Json) → whole_items done no_items ≡ Ok done
 unfolding whole_items
 whole_items-end done = rw append-nil
 
-items_view-drop : (vs : List Value) (at : ℕ) (v : Value) → at < length vs → v ≡ get_or vs at v → items_view (drop at vs) ≡ item (view v) (items_view (drop (at + 1) vs))
-items_view-drop vs at v within is =
-    at_drop_more items_view vs at v within ∙ ap (λ w. item (view w) (items_view (drop (at + 1) vs))) (sym is)
+pub whole_items-more : (done : List Json) (v : Value) (rest : List Value) (json : Json) → whole_json (view v) ≡ Ok json → whole_items done (items_view (v ∷ rest)) ≡ whole_items (done ++ json ∷ []) (items_view rest)
+whole_items-more done v rest json told = whole_items-item done (view v) json (items_view rest) told
 
-pub whole_items-more : (done : List Json) (vs : List Value) (at : ℕ) (v : Value) (json : Json) → at < length vs → v ≡ get_or vs at v → whole_json (view v) ≡ Ok json → whole_items done (items_view (drop at vs)) ≡ whole_items (done ++ json ∷ []) (items_view (drop (at + 1) vs))
-whole_items-more done vs at v json within is told =
-    ap (whole_items done) (items_view-drop vs at v within is) ∙ whole_items-item done (view v) json (items_view (drop (at + 1) vs)) told
+pub whole_items-stops : (done : List Json) (v : Value) (rest : List Value) (error : JsonError) → whole_json (view v) ≡ Err error → whole_items done (items_view (v ∷ rest)) ≡ Err error
+whole_items-stops done v rest error told = whole_items-no_whole done (view v) error (items_view rest) told
 
-pub whole_items-stops : (done : List Json) (vs : List Value) (at : ℕ) (v : Value) (error : JsonError) → at < length vs → v ≡ get_or vs at v → whole_json (view v) ≡ Err error → whole_items done (items_view (drop at vs)) ≡ Err error
-whole_items-stops done vs at v error within is told =
-    ap (whole_items done) (items_view-drop vs at v within is) ∙ whole_items-no_whole done (view v) error (items_view (drop (at + 1) vs)) told
-
-pub whole_items-all : (done : List Json) (vs : List Value) (at : ℕ) → length vs ≤ at → whole_items done (items_view (drop at vs)) ≡ Ok done
-whole_items-all done vs at past =
-    ap (λ w. whole_items done (items_view w)) (drop_all at vs past) ∙ whole_items-end done
+pub whole_items-all : (done : List Json) (vs : List Value) → length vs ≡ 0 → whole_items done (items_view vs) ≡ Ok done
+whole_items-all done [] none = whole_items-end done
+whole_items-all done (v ∷ vs) none = absurd (omega (arith, none))
 
 pub whole_json-Array : (v : Vec Value Global) (items : List Json) → whole_items [] (items_view v.items) ≡ Ok items → whole_json (view (value.Array v)) ≡ Ok (ListOf record { items = items })
 unfolding whole_json whole_items

@@ -6,9 +6,11 @@ use Rattle.json.specs.Print.{quoted}
 use Rattle.mx_json.specs.declared.value.Json.{Json, fold-Json}
 use Rattle.mx_json.specs.declared.value.Json.TheOpen.{Json-F, JsonList-F, JsonObject-F}
 
+-- the byte `,`
 abbrev pub comma : ℕ
 comma = 44
 
+-- the byte `:`
 abbrev pub colon : ℕ
 colon = 58
 

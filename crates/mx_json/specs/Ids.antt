@@ -1,21 +1,24 @@
 -- What user ids, room ids and event ids are: the sigils of the Matrix specification's 'Common identifier format'; the rest is ours.
-use Rattle.std.specs.Prelude.{ℕ, ◌+◌, ◌-◌, ◌==◌, nat_lt, nat_le, Bool, false, ◌&&◌, ◌||◌, if◌then◌else◌, List, [], ◌∷◌, ◌++◌, length, take, drop, codes, Option, Some, None, Result, Ok, Err}
+use Rattle.std.specs.Prelude.{ℕ, ◌+◌, ◌-◌, ◌==◌, nat_lt, nat_le, Bool, false, ◌&&◌, ◌||◌, if◌then◌else◌, List, [], ◌∷◌, ◌++◌, length, take, drop, codes, Option, Some, None, is_some, Result, Ok, Err}
 use Rattle.std.specs.Char.{is_ascii_digit, is_ascii_lowercase}
 use Rattle.std.specs.List.{list_all, list_any}
 use Rattle.std.specs.Str.{bytes_eq}
 use Rattle.mx_json.specs.declared.id.IdError.{IdError}
 use Rattle.mx_json.specs.declared.id.IdError.TheVariants.{BadId}
 
--- the bytes `@`, `!`, `$` and `:`
+-- the byte `@`
 abbrev pub at_sign : ℕ
 at_sign = 64
 
+-- the byte `!`
 abbrev pub exclamation_mark : ℕ
 exclamation_mark = 33
 
+-- the byte `$`
 abbrev pub dollar_sign : ℕ
 dollar_sign = 36
 
+-- the byte `:`
 abbrev pub colon : ℕ
 colon = 58
 
@@ -48,12 +51,15 @@ is_event_id text = begins_with dollar_sign text && has_length_of_an_id text
 abbrev pub read_id : (List ℕ → Bool) → List ℕ → Result (List ℕ) IdError
 read_id is_id text = if is_id text then Ok text else Err BadId
 
+-- the text as a user id, or the refusal
 abbrev pub read_user_id : List ℕ → Result (List ℕ) IdError
 read_user_id text = read_id is_user_id text
 
+-- the text as a room id, or the refusal
 abbrev pub read_room_id : List ℕ → Result (List ℕ) IdError
 read_room_id text = read_id is_room_id text
 
+-- the text as an event id, or the refusal
 abbrev pub read_event_id : List ℕ → Result (List ℕ) IdError
 read_event_id text = read_id is_event_id text
 
@@ -79,3 +85,7 @@ unfoldable pub localpart_of : List ℕ → List ℕ → Option (List ℕ)
 localpart_of server id =
     let part = part_before server id in
     if is_localpart part && bytes_eq id (local_user server part) then Some part else None
+
+-- the user id is local: it has a localpart on this server
+abbrev pub is_local : List ℕ → List ℕ → Bool
+is_local server id = is_some (localpart_of server id)

@@ -30,27 +30,35 @@ top_pairs other = []
 abbrev pub member : List ℕ → Json → Option Json
 member key json = member_in key (top_pairs (out-Json json))
 
--- the value is an object
+-- the value of the member that stands at this place, counted from 0; a value that is no object has none
+abbrev pub member_at : ℕ → Json → Option Json
+member_at place json = option_map (λ pair. pair.1) (slice_get (top_pairs (out-Json json)) place)
+
+-- what stands at the top of a value is an object
 abbrev pub is_object_at_top : Json-F Json JsonList JsonObject → Bool
 is_object_at_top (Json-F.Object object) = true
 is_object_at_top other = false
 
+-- the value is an object
 abbrev pub is_object : Json → Bool
 is_object json = is_object_at_top (out-Json json)
 
--- the text, the truth value, the whole number or the list at the top of a value, and none for any other
+-- the text at the top of a value, and none for any other
 abbrev pub top_text : Json-F Json JsonList JsonObject → Option (List ℕ)
 top_text (Json-F.Text text) = Some text
 top_text other = None
 
+-- the truth value at the top of a value, and none for any other
 abbrev pub top_truth : Json-F Json JsonList JsonObject → Option Bool
 top_truth (Json-F.Truth truth) = Some truth
 top_truth other = None
 
+-- the whole number at the top of a value, and none for any other
 abbrev pub top_whole : Json-F Json JsonList JsonObject → Option ℤ
 top_whole (Json-F.Whole number) = Some number
 top_whole other = None
 
+-- the items of the list at the top of a value, and none for any other
 abbrev pub top_list : Json-F Json JsonList JsonObject → Option (List Json)
 top_list (Json-F.List list) = Some list.items
 top_list other = None
@@ -104,9 +112,11 @@ value_depth (Json-F.List depth) = depth
 value_depth (Json-F.Object depth) = depth
 value_depth plain = 0
 
+-- how deep a list is nested whose items are nested so deep
 abbrev pub list_depth : JsonList-F ℕ ℕ ℕ → ℕ
 list_depth list = suc (largest list.items)
 
+-- how deep an object is nested whose values are nested so deep
 abbrev pub object_depth : JsonObject-F ℕ ℕ ℕ → ℕ
 object_depth object = suc (largest (map (λ pair. pair.1) object.pairs))
 
@@ -120,6 +130,7 @@ depth_of = fold-Json ℕ ℕ ℕ value_depth list_depth object_depth
 abbrev pub largest_whole : ℕ
 largest_whole = 9007199254740991
 
+-- a whole number is in range, from -(2^53)+1 to (2^53)-1
 abbrev pub is_whole : ℤ → Bool
 is_whole number = nat_le (nat_abs number) largest_whole
 
@@ -136,13 +147,16 @@ is_canonical_value (Json-F.List members_are) = members_are
 is_canonical_value (Json-F.Object members_are) = members_are
 is_canonical_value other = true
 
+-- a list is canonical where each of its items is
 abbrev pub is_canonical_list : JsonList-F Bool Bool Bool → Bool
 is_canonical_list list = list_all (λ member_is. member_is) list.items
 
+-- an object is canonical where its keys rise strictly and each of its values is canonical
 abbrev pub is_canonical_object : JsonObject-F Bool Bool Bool → Bool
 is_canonical_object object =
     are_rising (map (λ pair. pair.0) object.pairs) && list_all (λ pair. pair.1) object.pairs
 
+-- the value is canonical, at the top and in all that it holds
 abbrev pub is_canonical : Json → Bool
 is_canonical = fold-Json Bool Bool Bool is_canonical_value is_canonical_list is_canonical_object
 

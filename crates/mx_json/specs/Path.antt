@@ -5,9 +5,11 @@ use Rattle.mx_json.specs.Json.{member}
 
 -- ---- the segments of a text
 
+-- the byte `.`, which ends a segment
 abbrev pub full_stop : ℕ
 full_stop = 46
 
+-- the byte `\`, which escapes the next one
 abbrev pub backslash : ℕ
 backslash = 92
 

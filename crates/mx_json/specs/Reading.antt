@@ -22,8 +22,8 @@ in_range n = if is_whole n then Some n else None
 abbrev pub whole_number_of : Num → Option ℤ
 whole_number_of n = option_and_then in_range (as_i64 n)
 
--- each number in the value is whole
 abbrev mutual
+  -- each number in the value is whole
   pub all_whole : Data → Bool
   all_whole null = true
   all_whole (boolean truth) = true
@@ -32,16 +32,18 @@ abbrev mutual
   all_whole (array items) = all_whole_items items
   all_whole (object members) = all_whole_members members
 
+  -- each number in the items of a list is whole
   pub all_whole_items : Items → Bool
   all_whole_items no_items = true
   all_whole_items (item value items) = all_whole value && all_whole_items items
 
+  -- each number in the members of an object is whole
   pub all_whole_members : Members → Bool
   all_whole_members no_members = true
   all_whole_members (member key value members) = all_whole value && all_whole_members members
 
--- the value, where each number in it is whole
 abbrev mutual
+  -- the value that was read, where each number in it is whole
   pub json_of : Data → Json
   json_of null = Null
   json_of (boolean truth) = Truth truth
@@ -50,10 +52,12 @@ abbrev mutual
   json_of (array items) = ListOf record { items = items_of items }
   json_of (object members) = Object record { pairs = pairs_of members }
 
+  -- the items of a list that was read, where each number in them is whole
   pub items_of : Items → List Json
   items_of no_items = []
   items_of (item value items) = json_of value ∷ items_of items
 
+  -- the members of an object that was read, where each number in them is whole
   pub pairs_of : Members → List (List ℕ × Json)
   pairs_of no_members = []
   pairs_of (member key value members) = (key, json_of value) ∷ pairs_of members
@@ -62,13 +66,15 @@ abbrev mutual
 abbrev pub whole_or : {A : Type 0} → Bool → A → Result A JsonError
 whole_or is_all_whole value = if is_all_whole then Ok value else Err NotWhole
 
+-- the value that was read, or that a number in it isn't whole
 unfoldable pub whole_json : Data → Result Json JsonError
 whole_json value = whole_or (all_whole value) (json_of value)
 
--- the same of the members of a list and of an object, behind those that were read; for private clauses
+-- the items of a list behind those that were read, or that a number in them isn't whole; for private clauses
 unfoldable pub whole_items : List Json → Items → Result (List Json) JsonError
 whole_items done items = whole_or (all_whole_items items) (done ++ items_of items)
 
+-- the members of an object behind those that were read, or that a number in them isn't whole; for private clauses
 unfoldable pub whole_pairs : List (List ℕ × Json) → Members → Result (List (List ℕ × Json)) JsonError
 whole_pairs done members = whole_or (all_whole_members members) (done ++ pairs_of members)
 

@@ -12,9 +12,11 @@ value_has_utf8 (Json-F.List members_have) = members_have
 value_has_utf8 (Json-F.Object members_have) = members_have
 value_has_utf8 other = true
 
+-- a list has UTF-8 alone where each of its items has
 abbrev pub list_has_utf8 : JsonList-F Bool Bool Bool → Bool
 list_has_utf8 list = list_all (λ member_has. member_has) list.items
 
+-- an object has UTF-8 alone where each of its keys and values has
 abbrev pub object_has_utf8 : JsonObject-F Bool Bool Bool → Bool
 object_has_utf8 whole = list_all (λ pair. is_utf8 pair.0 && pair.1) whole.pairs
 

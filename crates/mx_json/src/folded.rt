@@ -1,12 +1,13 @@
-ghost use Rattle.std.specs.Prelude.{◌≡◌, ◌^◌, ◌<◌, ◌≤◌, ◌↔◌, chars, length, slice_get, IfOk, IsTrue};
+ghost use Rattle.std.specs.Prelude.{◌≡◌, ◌^◌, ◌<◌, ◌≤◌, ◌↔◌, [], ◌++◌, length, slice_get, IfOk, OnOk, OnErr, IsAscii, IsTrue};
+ghost use Rattle.ucd_case.specs.CaseFolding.{full_fold};
 ghost use Rattle.mx_json.specs.Folded.{folded, next_count};
 
 use crate::memory::OutOfMemory;
 use crate::meter::Meter;
-use caseless::default_case_fold_str;
 use std::alloc::{AllocError, Global};
 use std::fmt;
 use std::marker::Model;
+use ucd_case::full_folding;
 
 /// A text after Unicode full case folding, read one character at a time, each read counted.
 #[derive(Drop)]
@@ -31,6 +32,15 @@ impl fmt::Debug for Folded {
 }
 
 impl Folded {
+    /// A folded text with no character, to be filled by `refill`; it takes no memory yet.
+    pub fn new(alloc: Global) -> Folded
+        ensures { result ≡ [] }
+    {
+        Folded {
+            characters: Vec::new(alloc),
+        }
+    }
+
     /// The text with full case folding applied (The Unicode Standard, section 3.13, toCasefold).
     ///
     /// # Errors
@@ -39,8 +49,26 @@ impl Folded {
     pub fn of(alloc: Global, text: &str) -> Result<Folded, OutOfMemory>
         ensures { IfOk result (λ f. f ≡ folded text.now) }
     {
-        let characters = folded_characters(alloc, text)?;
-        Ok(Folded { characters })
+        let mut folded = Folded::new(alloc);
+        folded.refill(text)?;
+        Ok(folded)
+    }
+
+    /// Makes this the folded text of `text`, in the memory that it has already, where that is
+    /// enough.
+    ///
+    /// # Errors
+    ///
+    /// `OutOfMemory` alone; this is then the folded text with no character.
+    pub fn refill(&mut self, text: &str) -> Result<(), OutOfMemory>
+        ensures refilled { OnOk result (self.new ≡ folded text.now) }
+        ensures emptied { OnErr result (self.new ≡ []) }
+    {
+        if let Err(error) = fold_into(&mut self.characters, text) {
+            self.characters.clear();
+            return Err(error.into());
+        }
+        Ok(())
     }
 
     /// How many characters the folded text has.
@@ -72,15 +100,47 @@ impl Folded {
     }
 }
 
-fn folded_characters(alloc: Global, text: &str) -> Result<Vec<char>, AllocError>
-    ensures { IfOk result (λ v. v.items ≡ folded text.now) }
+// Most texts are ASCII, which needs no table and no decoding.
+fn fold_into(target: &mut Vec<char>, text: &str) -> Result<(), AllocError>
+    ensures { OnOk result (target.new.items ≡ folded text.now) }
 {
-    let folded = default_case_fold_str(alloc, text)?;
-    characters_of(alloc, folded.as_str())
+    target.clear();
+    if text.is_ascii() {
+        push_lowered(target, text)
+    } else {
+        push_each_folded(target, text)
+    }
 }
 
-fn characters_of(alloc: Global, text: &str) -> Result<Vec<char>, AllocError>
-    ensures { IfOk result (λ v. v.items ≡ chars text.now) }
+fn push_lowered(characters: &mut Vec<char>, text: &str) -> Result<(), AllocError>
+    requires { IsAscii text.now }
+    ensures { OnOk result (characters.new.items ≡ characters.old.items ++ folded text.now) }
 {
-    text.chars().collect(alloc)
+    characters.extend(
+        text.bytes()
+            .map(|byte| char::from(byte.to_ascii_lowercase())),
+    )
+}
+
+fn push_each_folded(characters: &mut Vec<char>, text: &str) -> Result<(), AllocError>
+    ensures { OnOk result (characters.new.items ≡ characters.old.items ++ folded text.now) }
+{
+    for character in text.chars() {
+        push_one_folded(characters, character)?;
+    }
+    Ok(())
+}
+
+#[inline]
+fn push_one_folded(characters: &mut Vec<char>, character: char) -> Result<(), AllocError>
+    ensures { OnOk result (characters.new.items ≡ characters.old.items ++ full_fold character) }
+{
+    if character.is_ascii() {
+        characters.push(character.to_ascii_lowercase())?;
+        return Ok(());
+    }
+    match full_folding(character) {
+        [] => Ok(characters.push(character)?),
+        folding => characters.extend_from_slice(folding),
+    }
 }

@@ -1,8 +1,8 @@
 //! The members of an object, found by halving, since the keys of a valid object rise.
 
-ghost use Rattle.std.specs.Prelude.{◌≡◌, true, map, option_map, IfSome, MatchOption};
+ghost use Rattle.std.specs.Prelude.{◌≡◌, true, map, is_some, option_map, IfSome, MatchOption};
 ghost use Rattle.std.specs.Option.{option_copied};
-ghost use Rattle.mx_json.specs.Json.{are_rising, is_valid, list_at, member, member_in, text_at, text_or_empty, truth_at, whole_at, IsMemberAt};
+ghost use Rattle.mx_json.specs.Json.{are_rising, is_valid, list_at, member, member_at, member_in, text_at, text_or_empty, truth_at, whole_at, IsMemberAt};
 
 use crate::text::JsonText;
 use crate::value::{Json, JsonList, JsonObject};
@@ -17,6 +17,35 @@ impl Json {
     {
         match self {
             Json::Object(object) => object.get(key),
+            _ => None,
+        }
+    }
+
+    /// Where the member of a valid value with this key stands among the members, for `member_at`;
+    /// `None` exactly where there is none, or the value is no object.
+    pub fn place_of(&self, key: &str) -> Option<usize>
+        requires { is_valid self.now ≡ true }
+        ensures place { IfSome result
+            (λ place. member_at place self.now ≡ member key.now self.now) }
+        ensures exactly { is_some result ≡ is_some (member key.now self.now) }
+    {
+        match self {
+            Json::Object(object) => place_of(object.pairs.as_slice(), key),
+            _ => None,
+        }
+    }
+
+    /// The member that stands at this place, counted from 0; `None` exactly past the last, or
+    /// where the value is no object.
+    #[inline]
+    pub fn member_at(&self, place: usize) -> Option<&Json>
+        ensures { option_copied result ≡ member_at place self.now }
+    {
+        match self {
+            Json::Object(object) => match object.pairs.get(place) {
+                Some((_, member)) => Some(member),
+                None => None,
+            },
             _ => None,
         }
     }

@@ -77,7 +77,7 @@ impl Json {
         if !nests_within(&value, deepest) {
             return Err(JsonError::BadJson);
         }
-        whole_json(alloc, &value)
+        whole_json(alloc, value)
     }
 }
 

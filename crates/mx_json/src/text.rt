@@ -1,4 +1,4 @@
-ghost use Rattle.std.specs.Prelude.{◌≡◌, IfOk};
+ghost use Rattle.std.specs.Prelude.{◌≡◌, string_bytes, IfOk};
 
 use crate::memory::OutOfMemory;
 use std::alloc::Global;
@@ -30,6 +30,13 @@ impl JsonText {
     {
         let text = String::from_str(alloc, text)?;
         Ok(JsonText { text })
+    }
+
+    // The text that a `String` holds, without a copy.
+    pub(crate) fn from_string(text: String) -> JsonText
+        ensures { result ≡ string_bytes text }
+    {
+        JsonText { text }
     }
 
     /// The text.

@@ -1,7 +1,7 @@
 ghost use Rattle.std.specs.Prelude.{◌≡◌, ◌≢◌, true, ℕ, List, IfOk, MatchOption};
 ghost use Rattle.std.specs.Option.{option_copied};
 ghost use Rattle.mx_json.specs.Gives.{Gives};
-ghost use Rattle.mx_json.specs.Ids.{is_localpart, is_localpart_byte, is_user_id, local_user, localpart_of, read_user_id};
+ghost use Rattle.mx_json.specs.Ids.{is_local, is_localpart, is_localpart_byte, is_user_id, local_user, localpart_of, read_user_id};
 
 use crate::id::{IdError, begins_with, has_length_of_an_id};
 use crate::memory::OutOfMemory;
@@ -58,6 +58,13 @@ impl UserId {
     {
         let part = part_before(self.text.as_str(), server)?;
         if is_localpart(part) { Some(part) } else { None }
+    }
+
+    /// Whether the user is local on this server, and so has a localpart there.
+    pub fn is_local(&self, server: &str) -> bool
+        ensures { result ≡ is_local server.now self.now }
+    {
+        self.localpart_on(server).is_some()
     }
 
     /// An equal id of its own.

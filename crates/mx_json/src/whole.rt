@@ -15,17 +15,17 @@ use std::alloc::Global;
 const LARGEST_WHOLE: u64 = (1 << 53) - 1;
 
 #[cycle(whole)]
-pub fn whole_json(alloc: Global, value: &Value) -> Result<Json, JsonError>
-    ensures { Gives JsonError.OutOfMemory result (whole_json (view value.now)) }
+pub fn whole_json(alloc: Global, value: Value) -> Result<Json, JsonError>
+    ensures { Gives JsonError.OutOfMemory result (whole_json (view value)) }
 {
     match value {
         Value::Null => Ok(Json::Null),
-        Value::Bool(truth) => Ok(Json::Truth(*truth)),
-        Value::Number(number) => match whole_number_of(number) {
+        Value::Bool(truth) => Ok(Json::Truth(truth)),
+        Value::Number(number) => match whole_number_of(&number) {
             Some(number) => Ok(Json::Whole(number)),
             None => Err(JsonError::NotWhole),
         },
-        Value::String(text) => Ok(Json::Text(JsonText::read(alloc, text.as_str())?)),
+        Value::String(text) => Ok(Json::Text(JsonText::from_string(text))),
         Value::Array(items) => Ok(Json::List(JsonList {
             items: whole_items(alloc, items)?,
         })),
@@ -36,8 +36,8 @@ pub fn whole_json(alloc: Global, value: &Value) -> Result<Json, JsonError>
 }
 
 #[cycle(whole)]
-fn whole_items(alloc: Global, items: &Vec<Value>) -> Result<Items<Json>, JsonError>
-    ensures { Gives JsonError.OutOfMemory result (whole_items [] (items_view items.now.items)) }
+fn whole_items(alloc: Global, items: Vec<Value>) -> Result<Items<Json>, JsonError>
+    ensures { Gives JsonError.OutOfMemory result (whole_items [] (items_view items.items)) }
 {
     let mut done = Items::new(alloc);
     for item in items {
@@ -49,14 +49,14 @@ fn whole_items(alloc: Global, items: &Vec<Value>) -> Result<Items<Json>, JsonErr
 #[cycle(whole)]
 fn whole_pairs(
     alloc: Global,
-    members: &Map<String, Value>,
+    members: Map<String, Value>,
 ) -> Result<Items<(JsonText, Json)>, JsonError>
-    ensures { Gives JsonError.OutOfMemory result (whole_pairs [] (members_view members.now.entries)) }
+    ensures { Gives JsonError.OutOfMemory result (whole_pairs [] (members_view members.entries)) }
 {
     let mut done = Items::new(alloc);
-    for (key, member) in members.iter() {
-        let key = JsonText::read(alloc, key.as_str())?;
-        done.push((key, whole_json(alloc, member)?))?;
+    for (key, member) in members {
+        let member = whole_json(alloc, member)?;
+        done.push((JsonText::from_string(key), member))?;
     }
     Ok(done)
 }

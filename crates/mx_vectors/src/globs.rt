@@ -77,7 +77,7 @@ pub static GLOB_CASES: [GlobCase; 39] = [
 
 /// Matches that are measured, the most common first, then the most hostile.
 #[rattlefmt::skip]
-pub static GLOB_WORK: [GlobWork; 15] = [
+pub static GLOB_WORK: [GlobWork; 18] = [
     GlobWork { name: "word u7 on hello u7", call: GlobCall::Word, pattern: Text { start: "", piece: "", times: 0, end: "u7" }, value: Text { start: "", piece: "", times: 0, end: "hello u7" } },
     GlobWork { name: "whole lunc?* on lunch plans", call: GlobCall::Whole, pattern: Text { start: "", piece: "", times: 0, end: "lunc?*" }, value: Text { start: "", piece: "", times: 0, end: "lunch plans" } },
     GlobWork { name: "word cake on 10,000 characters with many an e", call: GlobCall::Word, pattern: Text { start: "", piece: "", times: 0, end: "cake" }, value: Text { start: "", piece: "we eat bread ", times: 769, end: "cak" } },
@@ -93,4 +93,7 @@ pub static GLOB_WORK: [GlobWork; 15] = [
     GlobWork { name: "whole cake on 10,000 a", call: GlobCall::Whole, pattern: Text { start: "", piece: "", times: 0, end: "*cake*" }, value: Text { start: "", piece: "a", times: 10000, end: "" } },
     GlobWork { name: "word: a star and 1,023 ? on 10,000 a", call: GlobCall::Word, pattern: Text { start: "*", piece: "?", times: 1023, end: "" }, value: Text { start: "", piece: "a", times: 10000, end: "" } },
     GlobWork { name: "word: 1,022 ? on 5,000 words a", call: GlobCall::Word, pattern: Text { start: "", piece: "?", times: 1022, end: "" }, value: Text { start: "", piece: "a ", times: 5000, end: "" } },
+    GlobWork { name: "word @room on a short body", call: GlobCall::Word, pattern: Text { start: "", piece: "", times: 0, end: "@room" }, value: Text { start: "", piece: "", times: 0, end: "the build is broken @room" } },
+    GlobWork { name: "word @room on 10,000 characters of prose", call: GlobCall::Word, pattern: Text { start: "", piece: "", times: 0, end: "@room" }, value: Text { start: "", piece: "the quick brown fox jumps over the lazy dog ", times: 227, end: "and the cows" } },
+    GlobWork { name: "whole m.room.member on m.room.message", call: GlobCall::Whole, pattern: Text { start: "", piece: "", times: 0, end: "m.room.member" }, value: Text { start: "", piece: "", times: 0, end: "m.room.message" } },
 ];

@@ -1,4 +1,4 @@
-use Rattle.std.proofs.Common.{◌≡◌, ◌+◌, ◌≤◌, ℕ, arith}
+use Rattle.std.proofs.Common.{arith}
 use Rattle.mx_glob.proofs.SegmentLemmas.{LeadsOn-end_place, LeadsOn-from_end_place}
 use Rattle.mx_glob.proofs.rest.ends_word.Goals as goal
 

@@ -1,8 +1,8 @@
 use Rattle.std.proofs.Common.{◌≡◌, take}
 use Rattle.std.specs.Vec.{vec_len}
 use Rattle.mx_json.specs.Folded.{RisesAtMost}
-use Rattle.mx_glob.specs.declared.scratch.TheConstants.{MOST_CHARACTERS}
-use Rattle.mx_glob.proofs.scratch.Scratch.hold.Given as goal
+use Rattle.mx_glob.specs.declared.held.TheConstants.{MOST_CHARACTERS}
+use Rattle.mx_glob.proofs.held.Held.hold.Given as goal
 
 abbrev pub invariant-loop-k : goal.invariant-loop-k
 invariant-loop-k l =
