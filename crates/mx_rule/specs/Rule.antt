@@ -53,7 +53,7 @@ looks_for_mention id =
     || bytes_eq id (codes ".m.rule.roomnotif")
     || bytes_eq id (codes ".m.rule.contains_user_name")
 
--- these three rules aren't evaluated for such an event
+-- these three rules aren't evaluated for an event that says itself whom it mentions
 abbrev pub is_passed_over : List ℕ → Json → Bool
 is_passed_over id event = looks_for_mention id && has_mentions event
 
