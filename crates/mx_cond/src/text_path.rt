@@ -67,5 +67,5 @@ fn is_body(path: &Path) -> bool
 pub fn body_of(event: &Event) -> Option<&str>
     ensures { option_copied result ≡ option_and_then text_of (look body_path event.now) }
 {
-    event.json().member("content")?.text_at("body")
+    event.body()
 }

@@ -80,11 +80,11 @@ fn conditions_asked(
     requires { list_all (is_readable owner.now) asks.now ≡ true }
     ensures { IfOk result (λ conditions. conditions ≡ conditions_asked owner.now asks.now) }
 {
-    let mut conditions = Items::new(alloc);
+    let mut conditions = Vec::with_capacity(alloc, asks.len())?;
     for asked in asks {
         conditions.push(read_condition(alloc, owner, asked)?)?;
     }
-    Ok(conditions)
+    Ok(Items::from_vec(conditions))
 }
 
 fn read_condition(alloc: Global, owner: &str, asked: &Asked) -> Result<Condition, OutOfMemory>

@@ -53,11 +53,13 @@ pub fn condition_of(alloc: Global, owner: &str, asked: &Asked) -> Result<Json, O
 pub fn actions_of(alloc: Global, does: &[Does]) -> Result<JsonList, OutOfMemory>
     ensures { IfOk result (λ list. list.items ≡ actions_of does.now) }
 {
-    let mut items = Items::new(alloc);
+    let mut actions = Vec::with_capacity(alloc, does.len())?;
     for each in does {
-        items.push(action_done(alloc, each)?)?;
+        actions.push(action_done(alloc, each)?)?;
     }
-    Ok(JsonList { items })
+    Ok(JsonList {
+        items: Items::from_vec(actions),
+    })
 }
 
 fn action_done(alloc: Global, does: &Does) -> Result<Json, OutOfMemory>
@@ -94,9 +96,11 @@ fn texts(alloc: Global, members: &[(&str, &str)]) -> Result<Json, OutOfMemory>
 fn object_of(alloc: Global, members: &[(&str, &str)]) -> Result<JsonObject, OutOfMemory>
     ensures { IfOk result (λ object. object.pairs ≡ map (λ member. (member.0.now, Text member.1.now)) members.now) }
 {
-    let mut object = JsonObject::new(alloc);
+    let mut pairs = Vec::with_capacity(alloc, members.len())?;
     for (key, value) in members {
-        object = object.with(alloc, key, text(alloc, value)?)?;
+        pairs.push((JsonText::read(alloc, key)?, text(alloc, value)?))?;
     }
-    Ok(object)
+    Ok(JsonObject {
+        pairs: Items::from_vec(pairs),
+    })
 }

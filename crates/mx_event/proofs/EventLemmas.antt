@@ -82,7 +82,9 @@ pub read_event-right : (json : Json) (event_id room_id sender : List ℕ) → Ha
 read_event-right json event_id room_id sender ids is =
     rw (first_wrong_field-after_the_ids json event_id room_id sender ids, ← is)
 
-pub HoldsEvent-from : (json : Json) (event_id room_id sender : List ℕ) (places : Places) → is_valid json ≡ true → HasIds json event_id room_id sender → None ≡ first_wrong (fields_after_the_ids json) → ArePlacesIn json places → HoldsEvent json event_id room_id sender places
+pub HoldsEvent-from : (json : Json) (event_id room_id sender : List ℕ) (places : Places) → is_valid json ≡ true
+    → HasIds json event_id room_id sender → None ≡ first_wrong (fields_after_the_ids json) → ArePlacesIn json places
+    → HoldsEvent json event_id room_id sender places
 HoldsEvent-from json event_id room_id sender places valid ids is placed =
     let right = checked_right EventId (is_event_id (event_id_of json)) (event_id_of json) event_id ids.event in
     let right_2 = checked_right RoomId (is_room_id (room_id_of json)) (room_id_of json) room_id ids.room in
@@ -125,9 +127,12 @@ look_here : (found : Option Json) → option_and_then (look []) found ≡ found
 look_here None = refl
 look_here (Some json) = refl
 
-body_of-content : (content : Option Json) → option_and_then text_of (option_and_then (look (codes "body" ∷ [])) content) ≡ text_at (codes "body") (unwrap_or content Null)
+body_of-content : (content : Option Json)
+    → option_and_then text_of (option_and_then (look (codes "body" ∷ [])) content)
+    ≡ text_at (codes "body") (unwrap_or content Null)
 body_of-content None = search (rules, the_lemmas)
 body_of-content (Some content) = ap (option_and_then text_of) (look_here (member (codes "body") content))
 
-pub body_of-look : (json : Json) → option_and_then text_of (look (codes "content" ∷ codes "body" ∷ []) json) ≡ body_of json
+pub body_of-look : (json : Json)
+    → option_and_then text_of (look (codes "content" ∷ codes "body" ∷ []) json) ≡ body_of json
 body_of-look json = body_of-content (member (codes "content") json)

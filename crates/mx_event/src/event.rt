@@ -36,7 +36,8 @@ impl Model for Event {
 
     ghost view = { λ event. event.json };
 
-    ghost invariant = { λ event. HoldsEvent event.json event.event_id event.room_id event.sender event.places };
+    ghost invariant = { λ event.
+        HoldsEvent event.json event.event_id event.room_id event.sender event.places };
 }
 
 impl Event {

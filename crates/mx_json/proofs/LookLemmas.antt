@@ -30,7 +30,8 @@ member-Object key object = search (rules, the_lemmas)
 
 -- a place is found exactly where there is a member
 pub is_some-place : (key : List ℕ) (pairs : List (List ℕ × Json)) (place : Option ℕ)
-    → MatchOption place (member_in key pairs ≡ None) (λ at. IsMemberAt key pairs at) → is_some place ≡ is_some (member_in key pairs)
+    → MatchOption place (member_in key pairs ≡ None) (λ at. IsMemberAt key pairs at)
+    → is_some place ≡ is_some (member_in key pairs)
 is_some-place key pairs None none = ap is_some (sym none)
 is_some-place key [] (Some at) found = absurd (omega (arith, found.0))
 is_some-place key (pair ∷ pairs) (Some at) found =

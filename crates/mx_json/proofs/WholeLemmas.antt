@@ -106,10 +106,12 @@ whole_items-end : (done : List Json) → whole_items done no_items ≡ Ok done
 unfolding whole_items
 whole_items-end done = rw append-nil
 
-pub whole_items-more : (done : List Json) (v : Value) (rest : List Value) (json : Json) → whole_json (view v) ≡ Ok json → whole_items done (items_view (v ∷ rest)) ≡ whole_items (done ++ json ∷ []) (items_view rest)
+pub whole_items-more : (done : List Json) (v : Value) (rest : List Value) (json : Json) → whole_json (view v) ≡ Ok json
+    → whole_items done (items_view (v ∷ rest)) ≡ whole_items (done ++ json ∷ []) (items_view rest)
 whole_items-more done v rest json told = whole_items-item done (view v) json (items_view rest) told
 
-pub whole_items-stops : (done : List Json) (v : Value) (rest : List Value) (error : JsonError) → whole_json (view v) ≡ Err error → whole_items done (items_view (v ∷ rest)) ≡ Err error
+pub whole_items-stops : (done : List Json) (v : Value) (rest : List Value) (error : JsonError)
+    → whole_json (view v) ≡ Err error → whole_items done (items_view (v ∷ rest)) ≡ Err error
 whole_items-stops done v rest error told = whole_items-no_whole done (view v) error (items_view rest) told
 
 pub whole_items-all : (done : List Json) (vs : List Value) → length vs ≡ 0 → whole_items done (items_view vs) ≡ Ok done

@@ -1,13 +1,12 @@
 -- What a push rule is, and which events it matches: the Client-Server API v1.11, "Push rules".
-use Rattle.std.specs.Prelude.{◌≡◌, ℕ, nat_lt, Bool, false, ◌&&◌, ◌||◌, if◌then◌else◌, List, [], length, codes, Option, Some, None, is_some, Result, Ok, Err, IsTrue, All}
+use Rattle.std.specs.Prelude.{◌≡◌, ℕ, nat_lt, Bool, false, ◌&&◌, ◌||◌, if◌then◌else◌, List, [], length, codes, Option, Some, None, Result, Ok, Err, IsTrue, All}
 use Rattle.std.specs.Str.{bytes_eq}
 use Rattle.mx_json.specs.declared.value.Json.{Json}
 use Rattle.mx_json.specs.Folded.{folded}
-use Rattle.mx_json.specs.Json.{member}
 use Rattle.mx_glob.specs.Words.{WordMatches}
 use Rattle.mx_glob.specs.declared.error.GlobError.{GlobError}
 use Rattle.mx_glob.specs.declared.error.GlobError.TheVariants.{PatternTooLong}
-use Rattle.mx_event.specs.Event.{content_of, room_id_of, sender_of}
+use Rattle.mx_event.specs.Event.{has_mentions, room_id_of, sender_of}
 use Rattle.mx_cond.specs.Facts.{EventFacts}
 use Rattle.mx_cond.specs.Holds.{body_path, Holds, HasText}
 use Rattle.mx_rule.specs.declared.criterion.Criterion.{Criterion}
@@ -54,11 +53,7 @@ looks_for_mention id =
     || bytes_eq id (codes ".m.rule.roomnotif")
     || bytes_eq id (codes ".m.rule.contains_user_name")
 
--- the event says itself whom it mentions: its content has the key `m.mentions`, whatever the value
-abbrev pub has_mentions : Json → Bool
-has_mentions event = is_some (member (codes "m.mentions") (content_of event))
-
--- these three rules aren't evaluated for such an event
+-- these three rules aren't evaluated for an event that says itself whom it mentions
 abbrev pub is_passed_over : List ℕ → Json → Bool
 is_passed_over id event = looks_for_mention id && has_mentions event
 

@@ -83,9 +83,9 @@ fn read_each(alloc: Global, given: &[Json]) -> Result<Items<Action>, OutOfMemory
     requires { list_all is_valid given.now ≡ true }
     ensures { IfOk result (λ read. read ≡ map action_of given.now) }
 {
-    let mut read = Items::new(alloc);
+    let mut read = Vec::with_capacity(alloc, given.len())?;
     for json in given {
         read.push(Action::read(alloc, json)?)?;
     }
-    Ok(read)
+    Ok(Items::from_vec(read))
 }

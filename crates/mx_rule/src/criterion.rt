@@ -63,7 +63,7 @@ impl Criterion {
             Criterion::Conditions(conditions) => {
                 all_hold(alloc, conditions.as_slice(), facts, scratch)
             }
-            Criterion::Word(pattern) => pattern.is_word_of_body(alloc, facts.event, scratch),
+            Criterion::Word(pattern) => pattern.is_word_of_body(facts.event, scratch),
             Criterion::InRoom => Ok(facts.event.room_id().as_text() == id),
             Criterion::FromSender => Ok(facts.event.sender().as_text() == id),
         }
@@ -108,9 +108,9 @@ fn all_hold(
 fn copied(alloc: Global, conditions: &[Condition]) -> Result<Items<Condition>, OutOfMemory>
     ensures { IfOk result (λ copies. copies ≡ conditions.now) }
 {
-    let mut copies = Items::new(alloc);
+    let mut copies = Vec::with_capacity(alloc, conditions.len())?;
     for condition in conditions {
         copies.push(condition.copied(alloc)?)?;
     }
-    Ok(copies)
+    Ok(Items::from_vec(copies))
 }

@@ -5,7 +5,7 @@ ghost use Rattle.mx_rule.specs.Rule.{read_pattern, IsWordOfBody};
 use mx_cond::body_of;
 use mx_event::Event;
 use mx_glob::{Glob, GlobError, Scratch};
-use mx_json::{Folded, JsonText, Meter, OutOfMemory};
+use mx_json::{JsonText, Meter, OutOfMemory};
 use std::alloc::Global;
 use std::marker::Model;
 
@@ -50,25 +50,19 @@ impl Pattern {
     }
 
     /// Whether the pattern matches a word of the event's `content.body`, case apart
-    /// (Client-Server API v1.11, "Push rules", content rules). It takes memory only to fold the
-    /// body.
+    /// (Client-Server API v1.11, "Push rules", content rules). Only the scratch takes memory,
+    /// for a body that isn't in it.
     ///
     /// # Errors
     ///
     /// `OutOfMemory` where the allocator has none.
-    pub fn is_word_of_body(
-        &self,
-        alloc: Global,
-        event: &Event,
-        scratch: &mut Scratch,
-    ) -> Result<bool, OutOfMemory>
+    pub fn is_word_of_body(&self, event: &Event, scratch: &mut Scratch) -> Result<bool, OutOfMemory>
         ensures { IfOk result (λ is. IsTrue is ↔ IsWordOfBody self.now event.now) }
     {
         let Some(body) = body_of(event) else {
             return Ok(false);
         };
-        let body = Folded::of(alloc, body)?;
-        Ok(self.glob.word(&body, scratch, &mut Meter::new()))
+        self.glob.word_of_text(body, scratch, &mut Meter::new())
     }
 
     /// An equal pattern of its own.

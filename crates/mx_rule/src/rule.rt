@@ -6,7 +6,7 @@ ghost use Rattle.mx_cond.specs.Facts.{told_by};
 ghost use Rattle.mx_rule.specs.Actions.{action_of, verdict_of};
 ghost use Rattle.mx_rule.specs.Deciding.{may_decide};
 ghost use Rattle.mx_rule.specs.Editing.{with_actions, with_enabled};
-ghost use Rattle.mx_rule.specs.Rule.{conditions_of, has_mentions, is_passed_over, looks_for_mention, pattern_of, MayDecide};
+ghost use Rattle.mx_rule.specs.Rule.{conditions_of, is_passed_over, looks_for_mention, pattern_of, MayDecide};
 ghost use Rattle.mx_rule.specs.Ruleset.{is_master, is_own};
 
 use crate::action::Action;
@@ -226,7 +226,7 @@ impl Rule {
     fn is_passed_over(&self, event: &Event) -> bool
         ensures { result ≡ is_passed_over self.now.id event.now }
     {
-        self.looks_for_mention && has_mentions(event)
+        self.looks_for_mention && event.has_mentions()
     }
 }
 
@@ -237,10 +237,4 @@ fn looks_for_mention(id: &str) -> bool
     id == ".m.rule.contains_display_name"
         || id == ".m.rule.roomnotif"
         || id == ".m.rule.contains_user_name"
-}
-
-fn has_mentions(event: &Event) -> bool
-    ensures { result ≡ has_mentions event.now }
-{
-    event.content().member("m.mentions").is_some()
 }

@@ -1,5 +1,5 @@
 //! Globs, and names as words.
-use mx_glob::{Glob, GlobError, Scratch, word_literal};
+use mx_glob::{Glob, GlobError, Scratch, name_of_text, word_literal};
 use mx_json::{Folded, Meter};
 use mx_vectors::{GLOB_CASES, GlobCase, Text};
 use std::alloc::Global;
@@ -59,4 +59,59 @@ fn names_are_found_as_words(rt: HostRuntime) {
 fn has_word(rt: &impl Abort, alloc: Global, name: &str, value: &str) -> bool {
     let name = folded(rt, alloc, name);
     word_literal(&name, &folded(rt, alloc, value), &mut Meter::new())
+}
+
+/// More texts than a scratch keeps, some of one length, each asked about again after the others.
+#[test]
+fn one_scratch_serves_many_texts(rt: HostRuntime) {
+    let glob = Glob::read(rt.alloc(), "cake*").expect(&rt, "a glob");
+    let mut scratch = Scratch::new(rt.alloc()).expect(&rt, "a scratch");
+    for (text, wanted) in [
+        ("CAKE", (true, true)),
+        ("bake", (false, false)),
+        ("a cake", (false, true)),
+        ("a bake", (false, false)),
+        ("cake2", (true, true)),
+        ("cheesecake", (false, false)),
+        ("", (false, false)),
+        ("cakes", (true, true)),
+        ("rakes", (false, false)),
+        ("my cake", (false, true)),
+        ("bake", (false, false)),
+        ("CAKE", (true, true)),
+        ("a cake", (false, true)),
+    ] {
+        assert_eq!(rt;
+            text_answers(&rt, &glob, text, &mut scratch),
+            wanted,
+            "{text}"
+        );
+    }
+}
+
+fn text_answers(rt: &impl Abort, glob: &Glob, text: &str, scratch: &mut Scratch) -> (bool, bool) {
+    let mut meter = Meter::new();
+    let whole = glob.whole_text(text, scratch, &mut meter);
+    let word = glob.word_of_text(text, scratch, &mut meter);
+    (whole.expect(rt, "an answer"), word.expect(rt, "an answer"))
+}
+
+#[test]
+fn a_name_is_found_in_a_text(rt: HostRuntime) {
+    let mut scratch = Scratch::new(rt.alloc()).expect(&rt, "a scratch");
+    for (name, text, wanted) in [
+        ("Alice", "hello ALICE!", true),
+        ("Alina", "hello ALICE!", false),
+        ("Straße", "STRASSE", true),
+    ] {
+        assert_eq!(rt;
+            is_named(&rt, name, text, &mut scratch),
+            wanted,
+            "{name} in {text}"
+        );
+    }
+}
+
+fn is_named(rt: &impl Abort, name: &str, text: &str, scratch: &mut Scratch) -> bool {
+    name_of_text(name, text, scratch, &mut Meter::new()).expect(rt, "an answer")
 }

@@ -3,4 +3,4 @@ use Rattle.mx_defaults.specs.Row.{actions_of}
 use Rattle.mx_defaults.proofs.values.actions_of.Given as goal
 
 abbrev pub invariant-loop-each : goal.invariant-loop-each
-invariant-loop-each l = l.items ≡ actions_of (take l.each-index l.does)
+invariant-loop-each l = l.actions.items ≡ actions_of (take l.each-index l.does)

@@ -12,10 +12,12 @@ loop-character-preserved c =
     let rest = chars_rest c.next.new.self in
     let is = c.in-Some.ensures.steps.0 in (
       IsUtf8-past_char text rest c.in-Some.character held.0 is,
-      ap (λ s. s ++ folded rest) c.in_ok-push_one_folded.ensures ∙ folded-past_char c.loop-character.characters.items text rest c.in-Some.character held.0 is ∙ held.1,
+      ap (λ s. s ++ folded rest) c.in_ok-push_one_folded.ensures
+          ∙ folded-past_char c.loop-character.characters.items text rest c.in-Some.character held.0 is ∙ held.1,
     )
 
 pub returns : goal.returns
 returns c =
     let held = c.loop-character.invariant in
-    sym (folded-ended c.loop-character.characters.items (chars_rest c.loop-character.character-iterator) c.in-None.ensures.steps.0.0) ∙ held.1
+    let rest = chars_rest c.loop-character.character-iterator in
+    sym (folded-ended c.loop-character.characters.items rest c.in-None.ensures.steps.0.0) ∙ held.1

@@ -5,4 +5,5 @@ use Rattle.mx_json.proofs.folded.push_each_folded.Given as goal
 
 abbrev pub invariant-loop-character : goal.invariant-loop-character
 invariant-loop-character l =
-    IsUtf8 (chars_rest l.character-iterator) × (l.characters.items ++ folded (chars_rest l.character-iterator) ≡ l.initial.characters.items ++ folded l.text)
+    IsUtf8 (chars_rest l.character-iterator)
+    × (l.characters.items ++ folded (chars_rest l.character-iterator) ≡ l.initial.characters.items ++ folded l.text)

@@ -8,5 +8,9 @@ use Rattle.mx_json.proofs.folded.push_lowered.Goals as goal
 
 pub returns : goal.returns
 returns c =
-    let h = items_from_extend c.extend.result c.extend.ensures.ran (YieldsList-from_map _ to_ascii_lowercase (YieldsList-from_bytes c.args.text.now cc) c.map.ensures.closure (λ x r q k. search rules)) in
-    on_ok_weaker c.extend.result (λ e. e.0 ∙ ap (λ s. c.args.characters.now.items ++ s) (folded-ascii c.args.text.now c.requires)) h
+    let text = c.args.text.now in
+    let h = items_from_extend c.extend.result c.extend.ensures.ran
+    (YieldsList-from_map _ to_ascii_lowercase (YieldsList-from_bytes text cc) c.map.ensures.closure
+    (λ x r q k. search rules)) in
+    let lowered = ap (λ s. c.args.characters.now.items ++ s) (folded-ascii text c.requires) in
+    on_ok_weaker c.extend.result (λ e. e.0 ∙ lowered) h

@@ -47,27 +47,34 @@ whole_json-returns-in_ok-whole_pairs-in-Object t c =
 
 pub whole_items-loop-item-init : goal.whole_items-loop-item-init
 whole_items-loop-item-init t c =
-    let gives = c.into_iter-item-iterator.ensures.into_iter_gives in
-    (gives.1 ∙ (c.args.items.ok.0 ∙ ap length (sym gives.0)), rw c.new-done.ensures (ap (λ vs. whole_items [] (items_view vs)) (sym gives.0)))
+    let gives = c.into_iter-item-iterator.ensures.into_iter_gives in (
+      gives.1 ∙ (c.args.items.ok.0 ∙ ap length (sym gives.0)),
+      rw c.new-done.ensures (ap (λ vs. whole_items [] (items_view vs)) (sym gives.0)),
+    )
 
 pub whole_items-returns-in_err-whole_json : goal.whole_items-returns-in_err-whole_json
 whole_items-returns-in_err-whole_json t c =
     let p = err_from_is_err_and c.from_residual.result c.from_residual.ensures.1 in
     let rest = into_iter_items c.next.new.self in
     let left = c.in-Some.ensures.steps.0 in
-    rw (p.1, p.2) (told_by_part (λ wrong. c.loop-item.invariant.1 ∙ (ap (λ vs. whole_items c.loop-item.done (items_view vs)) left ∙ whole_items-stops c.loop-item.done c.in-Some.item rest _ wrong)) c.in_err-whole_json.ensures)
+    let here = c.loop-item.invariant.1 ∙ ap (λ vs. whole_items c.loop-item.done (items_view vs)) left in
+    rw (p.1, p.2) (told_by_part (λ wrong. here ∙ whole_items-stops c.loop-item.done c.in-Some.item rest _ wrong)
+    c.in_err-whole_json.ensures)
 
 pub whole_items-loop-item-preserved : goal.whole_items-loop-item-preserved
 whole_items-loop-item-preserved t c =
     let rest = into_iter_items c.next.new.self in
-    let left = c.in-Some.ensures.steps.0 in (
+    let left = c.in-Some.ensures.steps.0 in
+    let here = c.loop-item.invariant.1 ∙ ap (λ vs. whole_items c.loop-item.done (items_view vs)) left in (
       omega (arith, c.in-Some.ensures.steps.1, c.loop-item.invariant.0, ap length left),
-      rw c.in_ok-push.ensures.ok (c.loop-item.invariant.1 ∙ (ap (λ vs. whole_items c.loop-item.done (items_view vs)) left ∙ whole_items-more c.loop-item.done c.in-Some.item rest _ c.in_ok-whole_json.ensures)),
+      rw c.in_ok-push.ensures.ok
+          (here ∙ whole_items-more c.loop-item.done c.in-Some.item rest _ c.in_ok-whole_json.ensures),
     )
 
 pub whole_items-returns : goal.whole_items-returns
 whole_items-returns t c =
-    let none : length (into_iter_items c.loop-item.item-iterator) ≡ 0 = sym c.loop-item.invariant.0 ∙ c.in-None.ensures.steps.0 in
+    let none : length (into_iter_items c.loop-item.item-iterator) ≡ 0 =
+    sym c.loop-item.invariant.0 ∙ c.in-None.ensures.steps.0 in
     c.loop-item.invariant.1 ∙ whole_items-all c.loop-item.done _ none
 
 pub whole_pairs-returns-in_err-member : goal.whole_pairs-returns-in_err-member
@@ -75,13 +82,17 @@ whole_pairs-returns-in_err-member t c =
     let p = err_from_is_err_and c.from_residual.result c.from_residual.ensures.1 in
     let entry : Entry = (c.in-Some.key, c.in-Some.member) in
     let left : c.loop-key.key-iterator ≡ entry ∷ c.next.new.self = c.in-Some.ensures.steps in
-    rw (p.1, p.2) (told_by_part (λ wrong. c.loop-key.invariant ∙ (ap (λ es. whole_pairs c.loop-key.done (members_view es)) left ∙ whole_pairs-stops c.loop-key.done entry c.next.new.self _ wrong)) c.in_err-member.ensures)
+    let here = c.loop-key.invariant ∙ ap (λ es. whole_pairs c.loop-key.done (members_view es)) left in
+    rw (p.1, p.2) (told_by_part (λ wrong. here ∙ whole_pairs-stops c.loop-key.done entry c.next.new.self _ wrong)
+    c.in_err-member.ensures)
 
 pub whole_pairs-loop-key-preserved : goal.whole_pairs-loop-key-preserved
 whole_pairs-loop-key-preserved t c =
     let entry : Entry = (c.in-Some.key, c.in-Some.member) in
     let left : c.loop-key.key-iterator ≡ entry ∷ c.next.new.self = c.in-Some.ensures.steps in
-    rw (c.in_ok-push.ensures.ok, c.from_string.ensures) (c.loop-key.invariant ∙ (ap (λ es. whole_pairs c.loop-key.done (members_view es)) left ∙ whole_pairs-more c.loop-key.done entry c.next.new.self _ c.in_ok-member.ensures))
+    let here = c.loop-key.invariant ∙ ap (λ es. whole_pairs c.loop-key.done (members_view es)) left in
+    rw (c.in_ok-push.ensures.ok, c.from_string.ensures)
+    (here ∙ whole_pairs-more c.loop-key.done entry c.next.new.self _ c.in_ok-member.ensures)
 
 pub whole_pairs-returns : goal.whole_pairs-returns
 whole_pairs-returns t c =

@@ -3,4 +3,4 @@ use Rattle.mx_rule.specs.Actions.{action_of}
 use Rattle.mx_rule.proofs.actions.read_each.Given as goal
 
 abbrev pub invariant-loop-json : goal.invariant-loop-json
-invariant-loop-json l = l.read ≡ map action_of (take l.json-index l.given)
+invariant-loop-json l = l.read.items ≡ map action_of (take l.json-index l.given)

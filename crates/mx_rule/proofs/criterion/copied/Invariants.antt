@@ -2,4 +2,4 @@ use Rattle.std.proofs.Common.{◌≡◌, take}
 use Rattle.mx_rule.proofs.criterion.copied.Given as goal
 
 abbrev pub invariant-loop-condition : goal.invariant-loop-condition
-invariant-loop-condition l = l.copies ≡ take l.condition-index l.conditions
+invariant-loop-condition l = l.copies.items ≡ take l.condition-index l.conditions

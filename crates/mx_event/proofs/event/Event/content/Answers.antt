@@ -11,4 +11,5 @@ unreachable-requires c =
 pub returns-clause-valid : goal.returns-clause-valid
 returns-clause-valid c =
     let held = c.self.invariant in
-    is_valid-member (codes "content") c.self.inside.json c.in-Some.content.now held.valid (sym (c.in-Some.ensures ∙ held.places_are.content_is))
+    let found = sym (c.in-Some.ensures ∙ held.places_are.content_is) in
+    is_valid-member (codes "content") c.self.inside.json c.in-Some.content.now held.valid found

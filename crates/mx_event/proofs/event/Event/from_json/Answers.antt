@@ -26,7 +26,8 @@ returns-in-Some c =
 pub invariant_of-result : goal.invariant_of-result
 invariant_of-result c =
     let ids : HasIds c.args.json c.in_ok-event_id.event_id c.in_ok-room_id.room_id c.in_ok-sender.sender = record { event = c.in_ok-event_id.ensures; room = c.in_ok-room_id.ensures; from = c.in_ok-sender.ensures } in
-    HoldsEvent-from c.args.json _ _ _ c.places_in-places.result c.requires ids (sym c.in_default.is ∙ c.first_wrong_after_the_ids.ensures) c.places_in-places.ensures
+    let right = sym c.in_default.is ∙ c.first_wrong_after_the_ids.ensures in
+    HoldsEvent-from c.args.json _ _ _ c.places_in-places.result c.requires ids right c.places_in-places.ensures
 
 pub returns : goal.returns
 returns c =

@@ -4,7 +4,8 @@ use Rattle.mx_json.proofs.LookLemmas.{are_rising-valid, is_some-place, member-Ob
 use Rattle.mx_json.proofs.value.Json.place_of.Goals as goal
 
 pub place_of-requires : goal.place_of-requires
-place_of-requires c = rw c.as_slice.ensures (are_rising-valid c.args.self.now c.in-Object.object c.requires c.in-Object.is)
+place_of-requires c =
+    rw c.as_slice.ensures (are_rising-valid c.args.self.now c.in-Object.object c.requires c.in-Object.is)
 
 pub returns-in-Object-clause-exactly : goal.returns-in-Object-clause-exactly
 returns-in-Object-clause-exactly c =
