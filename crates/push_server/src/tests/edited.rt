@@ -139,8 +139,10 @@ fn are_long(rt: &impl Abort, alloc: Global) -> bool {
     let mut position = 0;
     for (pattern, id, refusal) in TEXT_BOUNDS {
         let fields = format!(in alloc;
-            r#"put","actions":[],"kind":"content","pattern":"{:p>pattern$}","rule_id":"{:i>id$}""#, "", ""
-        ).expect(rt, "fields");
+            r#"put","actions":[],"kind":"content","pattern":"{:p>pattern$}","rule_id":"{:i>id$}""#,
+            "", ""
+        )
+        .expect(rt, "fields");
         position = say_edit(rt, alloc, &mut script, fields.as_str(), refusal, position);
     }
     is_served(rt, alloc, &script, 0)
@@ -164,8 +166,9 @@ fn are_full(rt: &impl Abort, alloc: Global) -> bool {
     let mut script = Script::new(alloc);
     let mut position = 0;
     for k in 0..1000 {
-        let fields =
-            format!(in alloc; r#"put","actions":[],"kind":"override","rule_id":"{k}""#).expect(rt, "fields");
+        let fields = format!(in alloc;
+            r#"put","actions":[],"kind":"override","rule_id":"{k}""#
+        ).expect(rt, "fields");
         position = say_edit(rt, alloc, &mut script, fields.as_str(), "", position);
     }
     for (fields, refusal) in FULL {
@@ -249,13 +252,16 @@ fn message_line(rt: &impl Abort, alloc: Global, body: &str, number: u32) -> Stri
     ).expect(rt, body)
 }
 
-const A_JOINS: &str = r#"{"cmd":"event","event":{"content":{"membership":"join"},"event_id":"$1","room_id":"!r:example.org","sender":"@a:example.org","state_key":"@a:example.org","type":"m.room.member"}}"#;
+const A_JOINS: &str =
+    r#"{"cmd":"event","event":{"content":{"membership":"join"},"event_id":"$1","room_id":"!r:example.org","sender":"@a:example.org","state_key":"@a:example.org","type":"m.room.member"}}"#;
 
-const B_JOINS: &str = r#"{"cmd":"event","event":{"content":{"membership":"join"},"event_id":"$2","room_id":"!r:example.org","sender":"@b:example.org","state_key":"@b:example.org","type":"m.room.member"}}"#;
+const B_JOINS: &str =
+    r#"{"cmd":"event","event":{"content":{"membership":"join"},"event_id":"$2","room_id":"!r:example.org","sender":"@b:example.org","state_key":"@b:example.org","type":"m.room.member"}}"#;
 
 const COUNTS: &str = r#"{"cmd":"counts","room_id":"!r:example.org","user":"@b:example.org"}"#;
 
-const CAKE: &str = r#"put","actions":["notify",{"set_tweak":"highlight"}],"kind":"content","pattern":"cake","rule_id":"c""#;
+const CAKE: &str =
+    r#"put","actions":["notify",{"set_tweak":"highlight"}],"kind":"content","pattern":"cake","rule_id":"c""#;
 
 const QUIET_ROOM: &str = r#"put","actions":[],"kind":"room","rule_id":"!r:example.org""#;
 

@@ -78,7 +78,13 @@ pub(super) fn edit_line(rt: &impl Abort, alloc: Global, fields: &str) -> String 
     format!(in alloc; r#"{{"cmd":"rule_{fields},"user":"@b:example.org"}}"#).expect(rt, fields)
 }
 
-pub(super) fn say_accepted(rt: &impl Abort, alloc: Global, script: &mut Script, line: &str, position: u32) {
+pub(super) fn say_accepted(
+    rt: &impl Abort,
+    alloc: Global,
+    script: &mut Script,
+    line: &str,
+    position: u32,
+) {
     let reply = format!(in alloc; r#"= {{"ok":{position}}}"#).expect(rt, line);
     script.say(rt, line.as_bytes(), reply.as_str());
 }
@@ -97,7 +103,10 @@ pub(super) fn say_rules(rt: &impl Abort, alloc: Global, script: &mut Script, own
 /// The reply to `rules` of a user who made these rules, and changed no predefined one.
 fn rules_reply(rt: &impl Abort, alloc: Global, own: &[&str; 5]) -> String {
     let table = printed_predefined_rules();
-    let (master, others) = table.override_.split_once('\n').expect(rt, "the master rule");
+    let (master, others) = table
+        .override_
+        .split_once('\n')
+        .expect(rt, "the master rule");
     let mut reply = String::from_str(alloc, r#"= {"content":"#).expect(rt, "a reply");
     print_list(rt, alloc, &mut reply, [own[1], "", table.content], PATTERN);
     print_text(rt, &mut reply, r#","override":"#);
@@ -107,7 +116,13 @@ fn rules_reply(rt: &impl Abort, alloc: Global, own: &[&str; 5]) -> String {
     print_text(rt, &mut reply, r#","sender":"#);
     print_list(rt, alloc, &mut reply, [own[3], "", ""], PLAIN);
     print_text(rt, &mut reply, r#","underride":"#);
-    print_list(rt, alloc, &mut reply, [own[4], "", table.underride], CONDITIONS);
+    print_list(
+        rt,
+        alloc,
+        &mut reply,
+        [own[4], "", table.underride],
+        CONDITIONS,
+    );
     print_text(rt, &mut reply, "}");
     reply
 }

@@ -16,7 +16,8 @@ fn the_millionth_input_is_the_last(rt: HostRuntime) {
 
 /// Whether an engine accepts one input so often, and then refuses it because its history is full.
 fn is_full_at(rt: &impl Abort, alloc: Global, times: u64) -> bool {
-    let line = br#"{"cmd":"rule_enable","enabled":true,"kind":"override","rule_id":".m.rule.master","user":"@b:example.org"}"#;
+    let line =
+        br#"{"cmd":"rule_enable","enabled":true,"kind":"override","rule_id":".m.rule.master","user":"@b:example.org"}"#;
     let Ok(Command::Input(input)) = read(alloc, line) else {
         return false;
     };
