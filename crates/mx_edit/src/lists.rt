@@ -74,7 +74,12 @@ fn put_by_itself(
     }
 }
 
-fn put_first_own(alloc: Global, rules: &[Rule], kind: Kind, new: Rule) -> Result<Vec<Rule>, OutOfMemory>
+fn put_first_own(
+    alloc: Global,
+    rules: &[Rule],
+    kind: Kind,
+    new: Rule,
+) -> Result<Vec<Rule>, OutOfMemory>
     ensures { IfOk result (λ list. list.items ≡ put_first_own kind new (without new.id rules.now)) }
 {
     let mut list = others(alloc, rules, new.id())?;
