@@ -8,7 +8,10 @@ use Rattle.mx_glob.specs.Glob.{Matches}
 use Rattle.mx_glob.specs.Words.{HasWord, WordMatches}
 use Rattle.mx_cond.specs.Holds.{HasText, MatchesAt, NamesOwner, body_path, is_body}
 
-pub HasText-body : (path : List (List ℕ)) (event : Json) (pattern text : List ℕ) → Some text ≡ option_and_then text_of (look path event) → is_body path ≡ true → WordMatches pattern (folded text) ↔ HasText path event (MatchesAt path pattern)
+pub HasText-body : (path : List (List ℕ)) (event : Json) (pattern text : List ℕ)
+    → Some text ≡ option_and_then text_of (look path event)
+    → is_body path ≡ true
+    → WordMatches pattern (folded text) ↔ HasText path event (MatchesAt path pattern)
 HasText-body path event pattern text found at =
     let family : Bool → Type 0 = λ b. MatchBool b (WordMatches pattern (folded text)) (Matches pattern (folded text)) in
     let has : Option (List ℕ) → Type 0 = λ o. IsSomeAnd o (MatchesAt path pattern) in (
@@ -16,7 +19,10 @@ HasText-body path event pattern text found at =
       λ told. subst family at (subst has (sym found) told),
     )
 
-pub NamesOwner-named : (event : Json) (name body : List ℕ) → Some body ≡ option_and_then text_of (look body_path event) → name ≢ [] → HasWord (folded name) (folded body) ↔ NamesOwner (Some name) event
+pub NamesOwner-named : (event : Json) (name body : List ℕ)
+    → Some body ≡ option_and_then text_of (look body_path event)
+    → name ≢ []
+    → HasWord (folded name) (folded body) ↔ NamesOwner (Some name) event
 NamesOwner-named event name body found some =
     let has : Option (List ℕ) → Type 0 = λ o. IsSomeAnd o (λ text. HasWord (folded name) (folded text)) in
     (λ word. (some, subst has found word), λ names. subst has (sym found) names.1)

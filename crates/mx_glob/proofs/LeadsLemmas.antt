@@ -70,7 +70,10 @@ none_below_next P n below here j h holds =
     ]
 
 -- a segment whose first character is itself agrees only where that stands
-pub FitsAt-first : (text segment : List ℕ) (first k : ℕ) → slice_get segment 0 ≡ Some first → first == question ≡ false → FitsAt text segment k → slice_get text k ≡ Some first
+pub FitsAt-first : (text segment : List ℕ) (first k : ℕ) → slice_get segment 0 ≡ Some first
+    → first == question ≡ false
+    → FitsAt text segment k
+    → slice_get text k ≡ Some first
 FitsAt-first text [] first k known itself agrees = cc
 FitsAt-first text (wanted ∷ rest) first k known itself agrees =
     let other : wanted ≢ question = λ same. grind (arith, nat_tests) in
@@ -81,6 +84,9 @@ length-from_first [] first known = cc
 length-from_first (x ∷ xs) first known = omega arith
 
 -- what holds at none of the places before one, nor from there on before another, since what it needs does not
-pub none_before : (P Q : ℕ → Type 0) (from place : ℕ) → ((j : ℕ) → 0 ≤ j → j < from → P j → ⊥) → ((j : ℕ) → from ≤ j → j < place → Q j → ⊥) → ((j : ℕ) → P j → Q j) → (j : ℕ) → 0 ≤ j → j < place → P j → ⊥
+pub none_before : (P Q : ℕ → Type 0) (from place : ℕ) → ((j : ℕ) → 0 ≤ j → j < from → P j → ⊥)
+    → ((j : ℕ) → from ≤ j → j < place → Q j → ⊥)
+    → ((j : ℕ) → P j → Q j)
+    → (j : ℕ) → 0 ≤ j → j < place → P j → ⊥
 none_before P Q from place low high needs j any before holds =
     elim (cases_lt j from) [ inl below ↦ low j any below holds | inr at ↦ high j at before (needs j holds) ]

@@ -1,4 +1,4 @@
-use Rattle.std.proofs.Common.{◌↔◌, ◌∙◌, sym, IsTrue}
+use Rattle.std.proofs.Common.{◌↔◌, ◌∙◌, Bool, sym, IsTrue}
 use Rattle.std.proofs.lemmas.Result.{IfOk-weaker}
 use Rattle.mx_json.specs.Folded.{folded}
 use Rattle.mx_glob.specs.Words.{WordMatches}
@@ -12,5 +12,9 @@ returns-then-is_body c =
     let event = c.args.event.now in
     let pattern = c.args.glob.now in
     let text = c.in-Some.text.now in
-    let same = HasText-body path event pattern text (c.in-Some.ensures {u = tt}) (sym c.is_body.ensures ∙ c.if-is_body.true) in
-    IfOk-weaker _ (λ m. IsTrue m ↔ WordMatches pattern (folded text)) (λ m. IsTrue m ↔ HasText path event (MatchesAt path pattern)) (λ m h. (λ yes. same.0 (h.0 yes), λ told. h.1 (same.1 told))) c.word_of_text.ensures.matches
+    let at = sym c.is_body.ensures ∙ c.if-is_body.true in
+    let same = HasText-body path event pattern text (c.in-Some.ensures {u = tt}) at in
+    let word : Bool → Type 0 = λ m. IsTrue m ↔ WordMatches pattern (folded text) in
+    let has : Bool → Type 0 = λ m. IsTrue m ↔ HasText path event (MatchesAt path pattern) in
+    let told : (m : Bool) → word m → has m = λ m h. (λ yes. same.0 (h.0 yes), λ is. h.1 (same.1 is)) in
+    IfOk-weaker _ word has told c.word_of_text.ensures.matches
