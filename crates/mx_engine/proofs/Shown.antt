@@ -1,11 +1,13 @@
 -- What an engine shows tells what its history refuses, and goes on by an input as the history does.
-use Rattle.std.proofs.Common.{◌≡◌, ℕ, ◌+◌, List, [], ◌∷◌, ◌++◌, Bool, true, Option, Some, None, cond, refl, ap, sym, subst, ◌∙◌}
+use Rattle.std.proofs.Common.{◌≡◌, ℕ, ◌+◌, List, [], ◌∷◌, ◌++◌, Bool, true, Option, Some, None, ◌⊎◌, inl, inr, Err, cond, refl, ap, sym, subst, ◌∙◌}
 use Rattle.std.specs.Prelude.{nat_le, option_map}
 use Rattle.std.specs.FinMap.{empty, get, insert}
 use Rattle.std.specs.Option.{option_or}
 use Rattle.mx_json.specs.declared.value.Json.{Json}
 use Rattle.mx_edit.specs.declared.plan.EditPlan.{EditPlan}
-use Rattle.mx_edit.specs.Planning.{IsPlanOf, planned}
+use Rattle.mx_edit.specs.declared.error.EditError.{EditError}
+use Rattle.mx_edit.specs.declared.error.EditError.TheVariants.{Refused}
+use Rattle.mx_edit.specs.Planning.{IsPlanOf, Tells, planned}
 use Rattle.mx_event.specs.Event.{event_id_of, room_id_of}
 use Rattle.mx_room.specs.Change.{sets_of, with_sets}
 use Rattle.mx_room.specs.Rooms.{PlannedRoom, room_at, rooms_of, with_room}
@@ -33,6 +35,9 @@ use Rattle.mx_records.specs.Snapshot.{Notified, Snapshot, notified_by, snapshot_
 use Rattle.mx_records.proofs.HistoryLemmas.{next_event, room_after-next, snapshot_of-edit, snapshot_of-push}
 use Rattle.mx_records.proofs.PlacesLemmas.{position_of-places, with_place-new}
 use Rattle.mx_records.proofs.RulesLemmas.{get-edited_rules, rules_among-edited}
+use Rattle.mx_engine.specs.declared.error.PrepareError.{PrepareError}
+use Rattle.mx_engine.specs.declared.error.PrepareError.TheVariants.{OutOfMemory, Refused as Unprepared}
+use Rattle.mx_engine.specs.Preparing.{IsPrepared, SaysOfContent}
 use Rattle.mx_engine.specs.Planning.{adds, edits, Fits, IsPlannedFor, PlannedChange, PlannedEvent, Suits, with_change, with_edit, with_event}
 
 -- what is known before any input
@@ -102,6 +107,22 @@ content-edit server h shown user edit refusal is local told =
     ∙ ap (λ (r : List ℕ → PushRuleset). option_map refusal_by (refusal_of_edit (r user) edit))
     (sym (rules-shown server h shown is))
     ∙ ap (option_map refusal_by) told
+
+-- an error that tells of an edit's refusal tells this one
+pub told-refused : (found : Option EditRefusal) (error : EditError) (refusal : EditRefusal)
+    → Tells found error → error ≡ Refused refusal → found ≡ Some refusal
+told-refused None error refusal (inl is) same = absurd cc
+told-refused (Some first) error refusal (inl is) same = cc
+told-refused found error refusal (inr memory) same = absurd cc
+
+-- an error that says why the content of an input is refused is what preparing it answers
+pub prepared-refused : (server : List ℕ) (h : History) (shown : Snapshot) (input : Input) (error : PrepareError)
+    → shown ≡ snapshot_of server h
+    → SaysOfContent {A = EditPlan} (refusal_of_content server h input) (Err error)
+    → IsPrepared server h input (Err error)
+prepared-refused server h shown input (Unprepared told) is says =
+    refusal-shown server h shown input (Some told) shown.inputs (nat_le most_inputs shown.inputs) is says refl refl
+prepared-refused server h shown input OutOfMemory is says = tt
 
 -- ---- what an input leads to
 

@@ -234,7 +234,10 @@ impl Engine {
         ensures exact { (h : History) → self.old.shown ≡ snapshot_of self.old.server h
             → IsPrepared self.old.server h (Input.Edit user.now edit.now) result }
     {
-        let plan = self.plan_edit(alloc, user, edit)?;
+        let plan = match self.plan_edit(alloc, user, edit) {
+            Ok(plan) => plan,
+            Err(error) => return Err(error),
+        };
         if self.inputs >= MOST_INPUTS {
             return Err(PrepareError::Refused(Refusal::Full));
         }
