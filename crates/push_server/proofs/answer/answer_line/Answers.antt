@@ -11,5 +11,5 @@ pub returns-in-Err-Refused-clause-answered : goal.returns-in-Err-Refused-clause-
 returns-in-Err-Refused-clause-answered c h is =
     let server = c.args.engine.now.server in
     answered_as _ server h _ _ _ _ _
-    (admission_of-read server h c.args.line.now _ c.requires (rw c.in-Err-Refused.field-0-is at c.in-Err-Refused.ensures))
+    (admission_of-read server h c.args.line.now _ c.requires (rw c.in-Err-Refused.field-0-is at c.in-Err-Refused.ensures.command))
     (answered_denied _ server h (Line c.in-Err-Refused.refusal) _ _ _ is (rw c.in-Err-Refused.refusal-is at c.denied_into.ensures.text))
