@@ -108,13 +108,13 @@ fn rules_reply(rt: &impl Abort, alloc: Global, own: &[&str; 5]) -> String {
         .split_once('\n')
         .expect(rt, "the master rule");
     let mut reply = String::from_str(alloc, r#"= {"content":"#).expect(rt, "a reply");
-    print_list(rt, alloc, &mut reply, [own[1], "", table.content], PATTERN);
+    print_list(rt, alloc, &mut reply, own[1], "", table.content, PATTERN);
     print_text(rt, &mut reply, r#","override":"#);
-    print_list(rt, alloc, &mut reply, [own[0], master, others], CONDITIONS);
+    print_list(rt, alloc, &mut reply, own[0], master, others, CONDITIONS);
     print_text(rt, &mut reply, r#","room":"#);
-    print_list(rt, alloc, &mut reply, [own[2], "", ""], PLAIN);
+    print_list(rt, alloc, &mut reply, own[2], "", "", PLAIN);
     print_text(rt, &mut reply, r#","sender":"#);
-    print_list(rt, alloc, &mut reply, [own[3], "", ""], PLAIN);
+    print_list(rt, alloc, &mut reply, own[3], "", "", PLAIN);
     print_text(rt, &mut reply, r#","underride":"#);
     print_list(
         rt,
@@ -139,10 +139,11 @@ fn print_list(
     rt: &impl Abort,
     alloc: Global,
     out: &mut String,
-    rules: [&str; 3],
+    own: &str,
+    before: &str,
+    after: &str,
     asks: (&str, &str),
 ) {
-    let [own, before, after] = rules;
     print_text(rt, out, "[");
     let mut separator = print_lines(rt, out, before, "");
     for id in own.split(' ') {
