@@ -120,7 +120,9 @@ fn rules_reply(rt: &impl Abort, alloc: Global, own: &[&str; 5]) -> String {
         rt,
         alloc,
         &mut reply,
-        [own[4], "", table.underride],
+        own[4],
+        "",
+        table.underride,
         CONDITIONS,
     );
     print_text(rt, &mut reply, "}");
