@@ -178,11 +178,21 @@ fn print_lines(
 }
 
 fn print_own(rt: &impl Abort, alloc: Global, out: &mut String, id: &str, asks: (&str, &str)) {
+    match id.strip_prefix('-') {
+        Some(id) => print_rule(rt, alloc, out, id, false, asks),
+        None => print_rule(rt, alloc, out, id, true, asks),
+    }
+}
+
+fn print_rule(
+    rt: &impl Abort,
+    alloc: Global,
+    out: &mut String,
+    id: &str,
+    enabled: bool,
+    asks: (&str, &str),
+) {
     let (conditions, pattern) = asks;
-    let (enabled, id) = match id.strip_prefix('-') {
-        Some(id) => (false, id),
-        None => (true, id),
-    };
     let rule = format!(in alloc;
         r#"{{"actions":[],{conditions}"default":false,"enabled":{enabled},{pattern}"rule_id":"{id}"}}"#
     ).expect(rt, id);

@@ -14,20 +14,26 @@ fn the_millionth_input_is_the_last(rt: HostRuntime) {
     assert!(rt; is_full_at(&rt, rt.alloc(), 1_000_000));
 }
 
-/// Whether an engine accepts one input so often, and then refuses it because its history is full.
+/// Whether an engine accepts one edit so often, and then refuses it because its history is full.
 fn is_full_at(rt: &impl Abort, alloc: Global, times: u64) -> bool {
     let line =
         br#"{"cmd":"rule_enable","enabled":true,"kind":"override","rule_id":".m.rule.master","user":"@b:example.org"}"#;
-    let Ok(Command::Input(input)) = read(alloc, line) else {
-        return false;
-    };
+    match read(alloc, line) {
+        Ok(Command::Input(input)) => is_full_after(rt, alloc, &input, times),
+        _ => false,
+    }
+}
+
+fn is_full_after(rt: &impl Abort, alloc: Global, input: &Input, times: u64) -> bool
+    requires { is_valid_input input.now ≡ true }
+{
     let mut engine = Engine::new(alloc, "example.org").expect(rt, "an engine");
     for _ in 0..times {
-        if !is_accepted(alloc, &mut engine, &input) {
+        if !is_accepted(alloc, &mut engine, input) {
             return false;
         }
     }
-    engine.prepare(alloc, &input).err() == Some(PrepareError::Refused(Refusal::Full))
+    engine.prepare(alloc, input).err() == Some(PrepareError::Refused(Refusal::Full))
 }
 
 fn is_accepted(alloc: Global, engine: &mut Engine, input: &Input) -> bool
