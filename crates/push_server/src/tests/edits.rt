@@ -108,13 +108,29 @@ fn rules_reply(rt: &impl Abort, alloc: Global, own: &[&str; 5]) -> String {
         .split_once('\n')
         .expect(rt, "the master rule");
     let mut reply = String::from_str(alloc, r#"= {"content":"#).expect(rt, "a reply");
-    print_list(rt, alloc, &mut reply, own[1], "", table.content, PATTERN);
+    print_list(
+        rt,
+        alloc,
+        &mut reply,
+        own[1],
+        "",
+        table.content,
+        Asks::Pattern,
+    );
     print_text(rt, &mut reply, r#","override":"#);
-    print_list(rt, alloc, &mut reply, own[0], master, others, CONDITIONS);
+    print_list(
+        rt,
+        alloc,
+        &mut reply,
+        own[0],
+        master,
+        others,
+        Asks::Conditions,
+    );
     print_text(rt, &mut reply, r#","room":"#);
-    print_list(rt, alloc, &mut reply, own[2], "", "", PLAIN);
+    print_list(rt, alloc, &mut reply, own[2], "", "", Asks::Nothing);
     print_text(rt, &mut reply, r#","sender":"#);
-    print_list(rt, alloc, &mut reply, own[3], "", "", PLAIN);
+    print_list(rt, alloc, &mut reply, own[3], "", "", Asks::Nothing);
     print_text(rt, &mut reply, r#","underride":"#);
     print_list(
         rt,
@@ -123,18 +139,35 @@ fn rules_reply(rt: &impl Abort, alloc: Global, own: &[&str; 5]) -> String {
         own[4],
         "",
         table.underride,
-        CONDITIONS,
+        Asks::Conditions,
     );
     print_text(rt, &mut reply, "}");
     reply
 }
 
-/// What stands before and after `default` in a rule of an override or underride kind, of content rules, of others.
-const CONDITIONS: (&str, &str) = (r#""conditions":[],"#, "");
+/// What the rules of a list ask.
+#[derive(Clone, Copy)]
+enum Asks {
+    Conditions,
+    Pattern,
+    Nothing,
+}
 
-const PATTERN: (&str, &str) = ("", r#""pattern":"cake","#);
+impl Asks {
+    fn conditions(self) -> &'static str {
+        match self {
+            Asks::Conditions => r#""conditions":[],"#,
+            _ => "",
+        }
+    }
 
-const PLAIN: (&str, &str) = ("", "");
+    fn pattern(self) -> &'static str {
+        match self {
+            Asks::Pattern => r#""pattern":"cake","#,
+            _ => "",
+        }
+    }
+}
 
 /// Prints a list: of a kind's own rules, of the lines of the rules before them, and of those after them.
 fn print_list(
@@ -144,7 +177,7 @@ fn print_list(
     own: &str,
     before: &str,
     after: &str,
-    asks: (&str, &str),
+    asks: Asks,
 ) {
     print_text(rt, out, "[");
     let mut separator = print_lines(rt, out, before, "");
@@ -177,7 +210,7 @@ fn print_lines(
     separator
 }
 
-fn print_own(rt: &impl Abort, alloc: Global, out: &mut String, id: &str, asks: (&str, &str)) {
+fn print_own(rt: &impl Abort, alloc: Global, out: &mut String, id: &str, asks: Asks) {
     match id.strip_prefix('-') {
         Some(id) => print_rule(rt, alloc, out, id, false, asks),
         None => print_rule(rt, alloc, out, id, true, asks),
@@ -190,9 +223,10 @@ fn print_rule(
     out: &mut String,
     id: &str,
     enabled: bool,
-    asks: (&str, &str),
+    asks: Asks,
 ) {
-    let (conditions, pattern) = asks;
+    let conditions = asks.conditions();
+    let pattern = asks.pattern();
     let rule = format!(in alloc;
         r#"{{"actions":[],{conditions}"default":false,"enabled":{enabled},{pattern}"rule_id":"{id}"}}"#
     ).expect(rt, id);
