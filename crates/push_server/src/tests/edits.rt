@@ -108,33 +108,16 @@ fn rules_reply(rt: &impl Abort, alloc: Global, own: &[&str; 5]) -> String {
         .split_once('\n')
         .expect(rt, "the master rule");
     let mut reply = String::from_str(alloc, r#"= {"content":"#).expect(rt, "a reply");
-    print_list(
-        rt,
-        alloc,
-        &mut reply,
-        own[1],
-        "",
-        table.content,
-        Asks::Pattern,
-    );
+    print_list(rt, &mut reply, own[1], "", table.content, Asks::Pattern);
     print_text(rt, &mut reply, r#","override":"#);
-    print_list(
-        rt,
-        alloc,
-        &mut reply,
-        own[0],
-        master,
-        others,
-        Asks::Conditions,
-    );
+    print_list(rt, &mut reply, own[0], master, others, Asks::Conditions);
     print_text(rt, &mut reply, r#","room":"#);
-    print_list(rt, alloc, &mut reply, own[2], "", "", Asks::Nothing);
+    print_list(rt, &mut reply, own[2], "", "", Asks::Nothing);
     print_text(rt, &mut reply, r#","sender":"#);
-    print_list(rt, alloc, &mut reply, own[3], "", "", Asks::Nothing);
+    print_list(rt, &mut reply, own[3], "", "", Asks::Nothing);
     print_text(rt, &mut reply, r#","underride":"#);
     print_list(
         rt,
-        alloc,
         &mut reply,
         own[4],
         "",
@@ -170,21 +153,13 @@ impl Asks {
 }
 
 /// Prints a list: of a kind's own rules, of the lines of the rules before them, and of those after them.
-fn print_list(
-    rt: &impl Abort,
-    alloc: Global,
-    out: &mut String,
-    own: &str,
-    before: &str,
-    after: &str,
-    asks: Asks,
-) {
+fn print_list(rt: &impl Abort, out: &mut String, own: &str, before: &str, after: &str, asks: Asks) {
     print_text(rt, out, "[");
     let mut separator = print_lines(rt, out, before, "");
     for id in own.split(' ') {
         if !id.is_empty() {
             print_text(rt, out, separator);
-            print_own(rt, alloc, out, id, asks);
+            print_own(rt, out, id, asks);
             separator = ",";
         }
     }
@@ -210,27 +185,23 @@ fn print_lines(
     separator
 }
 
-fn print_own(rt: &impl Abort, alloc: Global, out: &mut String, id: &str, asks: Asks) {
+fn print_own(rt: &impl Abort, out: &mut String, id: &str, asks: Asks) {
     match id.strip_prefix('-') {
-        Some(id) => print_rule(rt, alloc, out, id, false, asks),
-        None => print_rule(rt, alloc, out, id, true, asks),
+        Some(id) => print_rule(rt, out, id, "false", asks),
+        None => print_rule(rt, out, id, "true", asks),
     }
 }
 
-fn print_rule(
-    rt: &impl Abort,
-    alloc: Global,
-    out: &mut String,
-    id: &str,
-    enabled: bool,
-    asks: Asks,
-) {
-    let conditions = asks.conditions();
-    let pattern = asks.pattern();
-    let rule = format!(in alloc;
-        r#"{{"actions":[],{conditions}"default":false,"enabled":{enabled},{pattern}"rule_id":"{id}"}}"#
-    ).expect(rt, id);
-    print_text(rt, out, rule.as_str());
+fn print_rule(rt: &impl Abort, out: &mut String, id: &str, enabled: &str, asks: Asks) {
+    print_text(rt, out, r#"{"actions":[],"#);
+    print_text(rt, out, asks.conditions());
+    print_text(rt, out, r#""default":false,"enabled":"#);
+    print_text(rt, out, enabled);
+    print_text(rt, out, ",");
+    print_text(rt, out, asks.pattern());
+    print_text(rt, out, r#""rule_id":""#);
+    print_text(rt, out, id);
+    print_text(rt, out, r#""}"#);
 }
 
 fn print_text(rt: &impl Abort, out: &mut String, text: &str) {
