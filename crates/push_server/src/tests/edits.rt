@@ -155,34 +155,34 @@ impl Asks {
 /// Prints a list: of a kind's own rules, of the lines of the rules before them, and of those after them.
 fn print_list(rt: &impl Abort, out: &mut String, own: &str, before: &str, after: &str, asks: Asks) {
     print_text(rt, out, "[");
-    let mut separator = print_lines(rt, out, before, "");
+    let mut printed = print_lines(rt, out, before, 0);
     for id in own.split(' ') {
         if !id.is_empty() {
-            print_text(rt, out, separator);
+            print_text(rt, out, separator(printed));
             print_own(rt, out, id, asks);
-            separator = ",";
+            printed = printed.saturating_add(1);
         }
     }
-    print_lines(rt, out, after, separator);
+    print_lines(rt, out, after, printed);
     print_text(rt, out, "]");
 }
 
-/// Prints these lines with commas between, the first after this text, and answers what stands before the next.
-fn print_lines(
-    rt: &impl Abort,
-    out: &mut String,
-    lines: &str,
-    separator: &'static str,
-) -> &'static str {
-    let mut separator = separator;
+/// Prints these lines after so many members of a list, and answers how many there are then.
+fn print_lines(rt: &impl Abort, out: &mut String, lines: &str, printed: u32) -> u32 {
+    let mut printed = printed;
     for line in lines.split('\n') {
         if !line.is_empty() {
-            print_text(rt, out, separator);
+            print_text(rt, out, separator(printed));
             print_text(rt, out, line);
-            separator = ",";
+            printed = printed.saturating_add(1);
         }
     }
-    separator
+    printed
+}
+
+/// What stands before the next member of a list that has so many.
+fn separator(printed: u32) -> &'static str {
+    if printed == 0 { "" } else { "," }
 }
 
 fn print_own(rt: &impl Abort, out: &mut String, id: &str, asks: Asks) {
