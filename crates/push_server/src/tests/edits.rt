@@ -108,95 +108,100 @@ fn rules_reply(rt: &impl Abort, alloc: Global, own: &[&str; 5]) -> String {
         .split_once('\n')
         .expect(rt, "the master rule");
     let mut reply = String::from_str(alloc, r#"= {"content":"#).expect(rt, "a reply");
-    print_list(rt, alloc, &mut reply, own[1], "", table.content, PATTERN);
+    print_list(rt, &mut reply, own[1], "", table.content, Asks::Pattern);
     print_text(rt, &mut reply, r#","override":"#);
-    print_list(rt, alloc, &mut reply, own[0], master, others, CONDITIONS);
+    print_list(rt, &mut reply, own[0], master, others, Asks::Conditions);
     print_text(rt, &mut reply, r#","room":"#);
-    print_list(rt, alloc, &mut reply, own[2], "", "", PLAIN);
+    print_list(rt, &mut reply, own[2], "", "", Asks::Nothing);
     print_text(rt, &mut reply, r#","sender":"#);
-    print_list(rt, alloc, &mut reply, own[3], "", "", PLAIN);
+    print_list(rt, &mut reply, own[3], "", "", Asks::Nothing);
     print_text(rt, &mut reply, r#","underride":"#);
     print_list(
         rt,
-        alloc,
         &mut reply,
         own[4],
         "",
         table.underride,
-        CONDITIONS,
+        Asks::Conditions,
     );
     print_text(rt, &mut reply, "}");
     reply
 }
 
-/// What stands before and after `default` in a rule of an override or underride kind, of content rules, of others.
-const CONDITIONS: (&str, &str) = (r#""conditions":[],"#, "");
+/// What the rules of a list ask.
+#[derive(Clone, Copy)]
+enum Asks {
+    Conditions,
+    Pattern,
+    Nothing,
+}
 
-const PATTERN: (&str, &str) = ("", r#""pattern":"cake","#);
-
-const PLAIN: (&str, &str) = ("", "");
-
-/// Prints a list: of a kind's own rules, of the lines of the rules before them, and of those after them.
-fn print_list(
-    rt: &impl Abort,
-    alloc: Global,
-    out: &mut String,
-    own: &str,
-    before: &str,
-    after: &str,
-    asks: (&str, &str),
-) {
-    print_text(rt, out, "[");
-    let mut separator = print_lines(rt, out, before, "");
-    for id in own.split(' ') {
-        if !id.is_empty() {
-            print_text(rt, out, separator);
-            print_own(rt, alloc, out, id, asks);
-            separator = ",";
+impl Asks {
+    fn conditions(self) -> &'static str {
+        match self {
+            Asks::Conditions => r#""conditions":[],"#,
+            _ => "",
         }
     }
-    print_lines(rt, out, after, separator);
+
+    fn pattern(self) -> &'static str {
+        match self {
+            Asks::Pattern => r#""pattern":"cake","#,
+            _ => "",
+        }
+    }
+}
+
+/// Prints a list: of a kind's own rules, of the lines of the rules before them, and of those after them.
+fn print_list(rt: &impl Abort, out: &mut String, own: &str, before: &str, after: &str, asks: Asks) {
+    print_text(rt, out, "[");
+    let mut printed = print_lines(rt, out, before, 0);
+    for id in own.split(' ') {
+        if !id.is_empty() {
+            print_text(rt, out, separator(printed));
+            print_own(rt, out, id, asks);
+            printed = printed.saturating_add(1);
+        }
+    }
+    print_lines(rt, out, after, printed);
     print_text(rt, out, "]");
 }
 
-/// Prints these lines with commas between, the first after this text, and answers what stands before the next.
-fn print_lines(
-    rt: &impl Abort,
-    out: &mut String,
-    lines: &str,
-    separator: &'static str,
-) -> &'static str {
-    let mut separator = separator;
+/// Prints these lines after so many members of a list, and answers how many there are then.
+fn print_lines(rt: &impl Abort, out: &mut String, lines: &str, printed: u32) -> u32 {
+    let mut printed = printed;
     for line in lines.split('\n') {
         if !line.is_empty() {
-            print_text(rt, out, separator);
+            print_text(rt, out, separator(printed));
             print_text(rt, out, line);
-            separator = ",";
+            printed = printed.saturating_add(1);
         }
     }
-    separator
+    printed
 }
 
-fn print_own(rt: &impl Abort, alloc: Global, out: &mut String, id: &str, asks: (&str, &str)) {
+/// What stands before the next member of a list that has so many.
+fn separator(printed: u32) -> &'static str {
+    if printed == 0 { "" } else { "," }
+}
+
+fn print_own(rt: &impl Abort, out: &mut String, id: &str, asks: Asks) {
     match id.strip_prefix('-') {
-        Some(id) => print_rule(rt, alloc, out, id, false, asks),
-        None => print_rule(rt, alloc, out, id, true, asks),
+        Some(id) => print_rule(rt, out, id, "false", asks),
+        None => print_rule(rt, out, id, "true", asks),
     }
 }
 
-fn print_rule(
-    rt: &impl Abort,
-    alloc: Global,
-    out: &mut String,
-    id: &str,
-    enabled: bool,
-    asks: (&str, &str),
-) {
-    let (conditions, pattern) = asks;
-    let rule = format!(in alloc;
-        r#"{{"actions":[],{conditions}"default":false,"enabled":{enabled},{pattern}"rule_id":"{id}"}}"#
-    ).expect(rt, id);
-    print_text(rt, out, rule.as_str());
+fn print_rule(rt: &impl Abort, out: &mut String, id: &str, enabled: &str, asks: Asks) {
+    print_text(rt, out, r#"{"actions":[],"#);
+    print_text(rt, out, asks.conditions());
+    print_text(rt, out, r#""default":false,"enabled":"#);
+    print_text(rt, out, enabled);
+    print_text(rt, out, ",");
+    print_text(rt, out, asks.pattern());
+    print_text(rt, out, r#""rule_id":""#);
+    print_text(rt, out, id);
+    print_text(rt, out, r#""}"#);
 }
 
 fn print_text(rt: &impl Abort, out: &mut String, text: &str) {
