@@ -220,7 +220,7 @@ static PLACES: [Row; 7] = [
     Row { name: "rule order and anchors", edits: &[X, Y, Edit(r#"put","actions":[],"before":"x","kind":"override","rule_id":"z""#, "")], own: ["y z x", "", "", "", ""] },
     Row { name: "after an anchor", edits: &[X, Y, Edit(r#"put","actions":[],"after":"x","kind":"override","rule_id":"z""#, "")], own: ["y x z", "", "", "", ""] },
     Row { name: "before decides over after", edits: &[X, Y, Edit(r#"put","actions":[],"after":"x","before":"y","kind":"override","rule_id":"z""#, "")], own: ["z y x", "", "", "", ""] },
-    Row { name: "put again, it keeps its place and its flag", edits: &[X, Y, Edit(r#"enable","enabled":false,"kind":"override","rule_id":"x""#, ""), X], own: ["y -x", "", "", "", ""] },
+    Row { name: "put again with other conditions, it keeps its place and its flag", edits: &[Edit(r#"put","actions":["notify"],"conditions":[{"kind":"contains_display_name"}],"kind":"override","rule_id":"x""#, ""), Y, Edit(r#"enable","enabled":false,"kind":"override","rule_id":"x""#, ""), X], own: ["y -x", "", "", "", ""] },
     Row { name: "put again after an anchor, it moves", edits: &[X, Y, Edit(r#"put","actions":[],"after":"x","kind":"override","rule_id":"y""#, "")], own: ["x y", "", "", "", ""] },
     Row { name: "deleted and put again, it is new", edits: &[X, Y, Edit(r#"delete","kind":"override","rule_id":"x""#, ""), X], own: ["x y", "", "", "", ""] },
 ];
