@@ -1,24 +1,31 @@
-//! Decisions that `bench/` measures. Each line of the input is a number of rounds; in a round each
-//! message of the table is judged for each of twenty users with the predefined rules, in a room in
-//! which all of them are. What is printed is what came of the last round.
+//! The work that `bench/decide` measures. Each line of the input is a kind of work, a number of users
+//! and a number of rounds; what is printed is what came of the last round:
+//!
+//! - from 0 on, a message of the table is judged for so many users with the predefined rules, in a
+//!   room in which twenty are;
+//! - 8: so many users' predefined rules are made;
+//! - 9 and 10: an English text and a Greek one are folded, whatever the number of users.
 #![tactic(auto)]
 
 mod messages;
+mod rooms;
 
 use anyhow::{Context, Result};
-use messages::MESSAGES;
+use messages::{ENGLISH, GREEK, MESSAGES};
 use mx_defaults::predefined;
 use mx_event::Event;
-use mx_glob::Scratch;
-use mx_json::{Json, OutOfMemory, UserId};
+use mx_glob::{Scratch, name_of_text};
+use mx_json::{Folded, Meter, OutOfMemory, UserId};
 use mx_judge::judge;
-use mx_room::{Room, RoomView};
+use mx_room::RoomView;
 use mx_rule::{Ruleset, Verdict};
+use rooms::{event, room};
 use std::alloc::Global;
 
 const SERVER: &str = "example.org";
 
-const USERS: u32 = 20;
+/// How many short texts a scratch keeps.
+const TEXTS_KEPT: u32 = 8;
 
 /// A user with the predefined rules.
 #[derive(Drop)]
@@ -38,25 +45,55 @@ struct Tally {
 
 fn main(rt: HostRuntime) -> Result<()> {
     for line in rt.lines(rt.alloc()) {
-        let tally = tally_of(rt.alloc(), line?.as_str())?;
-        println!(rt;
-            "notify {}, highlight {}, silent {}, none {}",
-            tally.notify, tally.highlight, tally.silent, tally.none
-        )?;
+        let (work, users, rounds) = request(line?.as_str()).context("three numbers")?;
+        let done = run(rt.alloc(), work, users, rounds)?;
+        println!(rt; "{done}")?;
     }
     Ok(())
 }
 
-/// The tally of the last of so many rounds.
-fn tally_of(alloc: Global, rounds: &str) -> Result<Tally> {
-    let rounds = rounds.parse::<u32>().context("a number of rounds")?;
-    let owners = owners(alloc)?;
-    judge_for(alloc, rounds, &owners)
+/// The work, the number of users and the number of rounds that a line asks for.
+fn request(line: &str) -> Option<(usize, u32, u32)> {
+    let (work, rest) = line.split_once(' ')?;
+    let (users, rounds) = rest.split_once(' ')?;
+    Some((
+        work.parse::<usize>().ok()?,
+        users.parse::<u32>().ok()?,
+        rounds.parse::<u32>().ok()?,
+    ))
 }
 
-fn owners(alloc: Global) -> Result<Vec<Owner>> {
+fn run(alloc: Global, work: usize, users: u32, rounds: u32) -> Result<String> {
+    match work {
+        8 => make_rules(alloc, users, rounds),
+        9 => fold(alloc, ENGLISH, rounds),
+        10 => fold(alloc, GREEK, rounds),
+        _ => {
+            let content = MESSAGES.get(work).copied().context("no such work")?;
+            judge_message(alloc, content, users, rounds)
+        }
+    }
+}
+
+fn make_rules(alloc: Global, users: u32, rounds: u32) -> Result<String> {
+    let mut made = 0;
+    for _ in 0..rounds {
+        made = owners(alloc, users)?.len();
+    }
+    Ok(format!(in alloc; "rules of {made} users")?)
+}
+
+fn fold(alloc: Global, text: &str, rounds: u32) -> Result<String> {
+    let mut folded = Folded::new(alloc);
+    for _ in 0..rounds {
+        folded.refill(text)?;
+    }
+    Ok(format!(in alloc; "{} characters", folded.len())?)
+}
+
+fn owners(alloc: Global, users: u32) -> Result<Vec<Owner>> {
     let mut owners = Vec::new(alloc);
-    for number in 0..USERS {
+    for number in 0..users {
         owners.push(owner_of(alloc, number)?)?;
     }
     Ok(owners)
@@ -74,109 +111,61 @@ fn owner_with(alloc: Global, id: &str) -> Result<Owner> {
     Ok(Owner { user, rules })
 }
 
-fn events(alloc: Global) -> Result<Vec<Event>> {
-    let mut events = Vec::new(alloc);
-    for content in MESSAGES {
-        events.push(event(alloc, content)?)?;
-    }
-    Ok(events)
+fn judge_message(alloc: Global, content: &str, users: u32, rounds: u32) -> Result<String> {
+    let owners = owners(alloc, users)?;
+    let tally = judge_for(alloc, content, &owners, rounds)?;
+    Ok(format!(in alloc;
+        "notify {}, highlight {}, silent {}, none {}",
+        tally.notify, tally.highlight, tally.silent, tally.none
+    )?)
 }
 
-fn event(alloc: Global, content: &str) -> Result<Event> {
-    let text = format!(in alloc;
-        r#"{{"content":{content},"event_id":"$1","room_id":"!r:example.org","sender":"@a:example.org","type":"m.room.message"}}"#
-    )?;
-    read_event(alloc, text.as_str())
+fn judge_for(alloc: Global, content: &str, owners: &[Owner], rounds: u32) -> Result<Tally> {
+    let event = event(alloc, content)?;
+    judge_event(alloc, &event, owners, rounds)
 }
 
-fn read_event(alloc: Global, text: &str) -> Result<Event> {
-    let json = Json::from_text(alloc, text.as_bytes(), 100)?;
-    Ok(Event::from_json(alloc, json)?)
-}
-
-/// The sender of the messages makes the room, and so may call all who are in it.
-const CREATED: &str =
-    r#"{"content":{},"event_id":"$0","room_id":"!r:example.org","sender":"@a:example.org","state_key":"","type":"m.room.create"}"#;
-
-/// The room of all users, each with a name.
-fn room(alloc: Global) -> Result<Room> {
-    let mut room = Room::new(alloc)?;
-    take(alloc, &mut room, CREATED)?;
-    for number in 0..USERS {
-        join(alloc, &mut room, number)?;
-    }
-    Ok(room)
-}
-
-fn join(alloc: Global, room: &mut Room, number: u32) -> Result<()> {
-    let text = format!(in alloc;
-        r#"{{"content":{{"displayname":"User {number}","membership":"join"}},"event_id":"$1","room_id":"!r:example.org","sender":"@u{number}:{SERVER}","state_key":"@u{number}:{SERVER}","type":"m.room.member"}}"#
-    )?;
-    take(alloc, room, text.as_str())
-}
-
-fn take(alloc: Global, room: &mut Room, text: &str) -> Result<()> {
-    let event = read_event(alloc, text)?;
-    set(alloc, room, &event)?;
-    Ok(())
-}
-
-fn set(alloc: Global, room: &mut Room, event: &Event) -> Result<(), OutOfMemory> {
-    let plan = room.prepare(alloc, event)?;
-    room.apply(plan);
-    Ok(())
-}
-
-fn judge_for(alloc: Global, rounds: u32, owners: &[Owner]) -> Result<Tally> {
-    let events = events(alloc)?;
-    judge_events(alloc, rounds, owners, &events)
-}
-
-fn judge_events(alloc: Global, rounds: u32, owners: &[Owner], events: &[Event]) -> Result<Tally> {
+fn judge_event(alloc: Global, event: &Event, owners: &[Owner], rounds: u32) -> Result<Tally> {
     let room = room(alloc)?;
-    judge_in(alloc, rounds, owners, events, &room.view(None))
+    judge_in(alloc, event, owners, &room.view(None), rounds)
 }
 
+/// The tally of the last of so many rounds. Each begins with a scratch that keeps no text of the
+/// event, as with a new event.
 fn judge_in(
     alloc: Global,
-    rounds: u32,
+    event: &Event,
     owners: &[Owner],
-    events: &[Event],
     view: &RoomView,
+    rounds: u32,
 ) -> Result<Tally> {
     let mut scratch = Scratch::new(alloc)?;
     let mut tally = Tally::new();
-    for _ in 0..rounds {
-        tally = round(alloc, owners, events, view, &mut scratch)?;
+    for round in 0..rounds {
+        forget(alloc, round, &mut scratch)?;
+        tally = judge_all(alloc, event, owners, view, &mut scratch)?;
     }
     Ok(tally)
 }
 
-/// Judges each event for each owner.
-fn round(
-    alloc: Global,
-    owners: &[Owner],
-    events: &[Event],
-    view: &RoomView,
-    scratch: &mut Scratch,
-) -> Result<Tally, OutOfMemory> {
-    let mut tally = Tally::new();
-    for event in events {
-        tally = judge_all(alloc, owners, event, view, scratch, tally)?;
+/// Puts other texts into the scratch, new ones in each round.
+fn forget(alloc: Global, round: u32, scratch: &mut Scratch) -> Result<()> {
+    for number in 0..TEXTS_KEPT {
+        let text = format!(in alloc; "{round} {number}")?;
+        name_of_text(text.as_str(), text.as_str(), scratch, &mut Meter::new())?;
     }
-    Ok(tally)
+    Ok(())
 }
 
 /// Judges an event for each owner.
 fn judge_all(
     alloc: Global,
-    owners: &[Owner],
     event: &Event,
+    owners: &[Owner],
     view: &RoomView,
     scratch: &mut Scratch,
-    tally: Tally,
 ) -> Result<Tally, OutOfMemory> {
-    let mut tally = tally;
+    let mut tally = Tally::new();
     for owner in owners {
         let rules = &owner.rules;
         let verdict = judge(alloc, event, &owner.user, SERVER, rules, view, scratch)?;
