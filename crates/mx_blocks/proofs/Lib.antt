@@ -1,1 +1,4 @@
 pub mod DifferenceLemmas
+pub mod MarkLemmas
+pub mod BlockLemmas
+pub mod PackLemmas

@@ -1,2 +1,4 @@
 pub mod Differences
 pub mod Block
+pub mod Walk
+pub mod Inside
