@@ -2,3 +2,4 @@ pub mod Differences
 pub mod Block
 pub mod Walk
 pub mod Inside
+pub mod Kept

@@ -3,6 +3,7 @@ ghost use Rattle.mx_rows.specs.Rows.{above, counts_in, is_rising, start_of, upto
 ghost use Rattle.mx_blocks.specs.Block.{block_rows, Kept};
 ghost use Rattle.mx_blocks.specs.Differences.{differences, IsPacked, total};
 
+use crate::counting::{counts_of, minus};
 use crate::marks::{Marks, count_marked, highlights_of};
 use crate::packing::packed_differences;
 use crate::walk::walk;
@@ -144,28 +145,5 @@ impl Block {
         self.sums = minus(self.sums, dropped);
         self.start = stop.next;
         dropped
-    }
-}
-
-/// What is left of counts without others.
-fn minus(all: Counts, some: Counts) -> Counts
-    requires notify { some.notify ≤ all.notify }
-    requires highlight { some.highlight ≤ all.highlight }
-    ensures notify { result.notify + some.notify ≡ all.notify }
-    ensures highlight { result.highlight + some.highlight ≡ all.highlight }
-{
-    Counts {
-        notify: all.notify - some.notify,
-        highlight: all.highlight - some.highlight,
-    }
-}
-
-/// How many rows there are, and how many of them are highlighted.
-fn counts_of(rows: &[Row]) -> Counts
-    ensures { result ≡ counts_in rows.now }
-{
-    Counts {
-        notify: rows.len() as u64,
-        highlight: rows.iter().filter(|row| row.highlight).count() as u64,
     }
 }

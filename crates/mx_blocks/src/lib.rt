@@ -2,9 +2,12 @@
 #![tactic(auto)]
 
 mod block;
+mod block_list;
+mod counting;
 mod difference;
 mod marks;
 mod packing;
+mod thread_rows;
 mod walk;
 
 pub use block::Block;
