@@ -2,3 +2,4 @@ pub mod DifferenceLemmas
 pub mod MarkLemmas
 pub mod BlockLemmas
 pub mod PackLemmas
+pub mod ThreadLemmas

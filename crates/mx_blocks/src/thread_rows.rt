@@ -1,4 +1,4 @@
-ghost use Rattle.std.specs.Prelude.{◌≡◌, ◌+◌, ◌-◌, ◌<◌, ◌≤◌, ◌^◌, not, nat_le, nat_lt, ◌||◌, true, false, if◌then◌else◌, [], ◌∷◌, ◌++◌, is_ok, All, IfOk, length, drop, vec_len, vec_capacity};
+ghost use Rattle.std.specs.Prelude.{◌≡◌, ◌+◌, ◌-◌, ◌<◌, ◌≤◌, ◌^◌, not, nat_le, nat_lt, ◌||◌, true, false, if◌then◌else◌, [], ◌∷◌, ◌++◌, is_ok, All, IfOk, length, drop, take, vec_len, vec_capacity};
 ghost use Rattle.std.specs.Result.{result_unwrap_or};
 ghost use Rattle.mx_rows.specs.Rows.{above, are_in_range, counts_in, has_rows, is_rising, start_of, upto};
 ghost use Rattle.mx_blocks.specs.Kept.{are_alive, rows_of_parts};
@@ -106,7 +106,7 @@ impl ThreadRows {
         if rows_upto(&self.hot, last) < BLOCK_ROWS {
             return Ok(0);
         }
-        let block = Block::pack(alloc, &self.hot[..BLOCK_ROWS])?;
+        let block = Block::pack(alloc, first_rows(&self.hot))?;
         self.blocks.reserve(1)?;
         self.hot.drain(..BLOCK_ROWS);
         self.blocks.push_back_reserved(block);
@@ -146,4 +146,12 @@ fn first_of(rows: &[Row]) -> u128
         Some(row) => u128::from(row.position),
         None => 1 << 64,
     }
+}
+
+/// The first 256 rows.
+fn first_rows(rows: &[Row]) -> &[Row]
+    requires { 256 ≤ length rows.now }
+    ensures { result.now ≡ take 256 rows.now }
+{
+    &rows[..BLOCK_ROWS]
 }
