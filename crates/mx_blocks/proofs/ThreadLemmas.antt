@@ -12,7 +12,7 @@ use Rattle.mx_rows.proofs.CutLemmas.{above-all, upto-none}
 use Rattle.mx_blocks.specs.Block.{block_rows, Kept, mark_at, packed_positions, packed_rows, rows_from}
 use Rattle.mx_blocks.specs.Differences.{differences, positions, total}
 use Rattle.mx_blocks.specs.Kept.{are_alive, first_ends_upto, last_of, rows_of_parts}
-use Rattle.mx_blocks.proofs.BlockLemmas.{above-none, all-rows_from, drop-positions, positions_upto, upto-all}
+use Rattle.mx_blocks.proofs.BlockLemmas.{above-none, counts-split, all-rows_from, drop-positions, positions_upto, upto-all}
 
 -- ---- rows that rise, in two parts
 
@@ -167,3 +167,50 @@ module _ (p : ℕ) (b b' : Kept) (bs : List Kept) (rising : is_rising (packed_ro
   pub first-alive : are_alive (b' ∷ bs) ≡ true
   first-alive =
       and_from _ _ (ap has_rows cut ∙ left) (and_parts (has_rows (block_rows b)) (are_alive bs) alive).1
+
+-- ---- blocks and hot rows together
+
+-- what a cut drops of two parts, and what it leaves of both
+module _ (p : ℕ) (xs ys : List Row) where
+  pub both-notify : length (upto p xs) + length (upto p ys) + length (above p (xs ++ ys)) ≡ length (xs ++ ys)
+  both-notify =
+      omega (arith, (counts-split p (xs ++ ys)).0, length-append (upto p xs) (upto p ys),
+      ap length (filter-append (λ (row : Row). nat_le row.position p) xs ys))
+
+  pub both-highlight : count_by (λ (row : Row). row.highlight) (upto p xs) + count_by (λ (row : Row). row.highlight) (upto p ys)
+      + count_by (λ (row : Row). row.highlight) (above p (xs ++ ys)) ≡ count_by (λ (row : Row). row.highlight) (xs ++ ys)
+  both-highlight =
+      omega (arith, (counts-split p (xs ++ ys)).1,
+      sum_by-append (λ (row : Row). cond row.highlight 1 0) (upto p xs) (upto p ys),
+      ap (count_by (λ (row : Row). row.highlight)) (filter-append (λ (row : Row). nat_le row.position p) xs ys))
+
+-- the counts of one row more
+pub counts-push : (rows : List Row) (row : Row) (new old : Counts) → old ≡ counts_in rows
+    → new.notify ≡ old.notify + 1 → new.highlight ≡ old.highlight + cond row.highlight 1 0
+    → new ≡ counts_in (rows ++ row ∷ [])
+counts-push rows row new old is notify highlight =
+    let long : new.notify ≡ length (rows ++ row ∷ [])
+    = omega (arith, ap (λ (n : Counts). n.notify) is, length-append rows (row ∷ [])) in
+    let marked : new.highlight ≡ count_by (λ (r : Row). r.highlight) (rows ++ row ∷ [])
+    = omega (arith, ap (λ (n : Counts). n.highlight) is, sum_by-append (λ (r : Row). cond r.highlight 1 0) rows (row ∷ []),
+    sum_by-cons (λ (r : Row). cond r.highlight 1 0) row []) in
+    λ i. record { notify = long i; highlight = marked i }
+
+-- packing the first hot rows leaves the rows as they are
+pub packed_same : (blocks : List Kept) (hot first rest : List Row) (b : Kept) → first ++ rest ≡ hot → block_rows b ≡ first
+    → rows_of_parts (blocks ++ b ∷ []) rest ≡ rows_of_parts blocks hot
+packed_same blocks hot first rest b parts is =
+    ap (λ l. l ++ rest) (packed_rows-append blocks (b ∷ []))
+    ∙ ap (λ l. (packed_rows blocks ++ l) ++ rest) (append-nil (block_rows b) ∙ is)
+    ∙ append_assoc (packed_rows blocks) first rest ∙ ap (λ l. packed_rows blocks ++ l) parts
+
+pub are_alive-push : (blocks : List Kept) (b : Kept) → are_alive blocks ≡ true → has_rows (block_rows b) ≡ true
+    → are_alive (blocks ++ b ∷ []) ≡ true
+are_alive-push [] b alive some = and_from _ _ some refl
+are_alive-push (x ∷ blocks) b alive some =
+    let parts = and_parts (has_rows (block_rows x)) (are_alive blocks) alive in
+    and_from _ _ parts.0 (are_alive-push blocks b parts.1 some)
+
+pub has_rows-long : (rows : List Row) → 0 < length rows → has_rows rows ≡ true
+has_rows-long [] some = absurd (omega arith)
+has_rows-long (row ∷ rows) some = refl

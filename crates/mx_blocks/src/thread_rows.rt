@@ -22,6 +22,7 @@ pub struct ThreadRows {
     ghost in_range: { are_in_range (rows_of_parts blocks.items hot.items) ≡ true },
     ghost alive: { are_alive blocks.items ≡ true },
     ghost counted: { sums ≡ counts_in (rows_of_parts blocks.items hot.items) },
+    ghost fits: { sums.notify < 2 ^ 64 },
     ghost capacity: { reserved ≡ true → vec_len hot < vec_capacity hot },
     ghost countable: { reserved ≡ true → sums.notify + 1 < 2 ^ 64 },
 }
