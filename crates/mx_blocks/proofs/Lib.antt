@@ -3,3 +3,7 @@ pub mod MarkLemmas
 pub mod BlockLemmas
 pub mod PackLemmas
 pub mod ThreadLemmas
+pub mod EntryLemmas
+pub mod NeededLemmas
+pub mod CutLemmas
+pub mod OrderLemmas

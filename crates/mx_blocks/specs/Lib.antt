@@ -3,3 +3,5 @@ pub mod Block
 pub mod Walk
 pub mod Inside
 pub mod Kept
+pub mod Entries
+pub mod EntriesLaws

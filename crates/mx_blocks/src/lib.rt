@@ -1,13 +1,16 @@
 //! Packed rows of unread events: a row that is long unread takes two or three bytes.
 #![tactic(auto)]
 
+mod adding;
 mod block;
 mod block_list;
 mod counting;
+mod cutting;
 mod difference;
 mod marks;
 mod packing;
 mod thread_rows;
+mod threads;
 mod walk;
 
 pub use block::Block;
