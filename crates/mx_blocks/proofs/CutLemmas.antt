@@ -13,23 +13,25 @@ use Rattle.mx_rows.specs.declared.thread_key.ThreadKey.{ThreadKey}
 use Rattle.mx_blocks.specs.declared.thread_rows.ThreadRows.{ThreadRows}
 use Rattle.mx_rows.proofs.CutLemmas.{above-all, all_above_start, upto-none}
 use Rattle.mx_rows.proofs.EntryLemmas.{get_or_of_slice_get}
-use Rattle.mx_blocks.specs.Entries.{are_needed, AreDistinct, Entries, highlights_left_to_cut, InOrder, reserved_in, rows_in, rows_left_to_cut, start_at, thread_rows}
+use Rattle.mx_blocks.specs.Entries.{are_needed, AreDistinct, Entries, highlights_left_to_cut, hot_in, InOrder, reserved_in, rows_in, rows_left_to_cut, start_at, thread_rows, threads_left_to_cut}
 use Rattle.mx_rows.specs.Rows.{above, is_rising, largest_count, start_of, upto}
 use Rattle.mx_rows.specs.Threads.{same_thread}
 
 -- after some threads were cut, the rest of the work is what a cut of every thread still does
-pub record CutsOn (position : ℕ) (old now : Entries) (dropped : Counts) : Type 0 where
+pub record CutsOn (position : ℕ) (old now : Entries) (dropped : Counts) (opened_before opened_now : ℕ) : Type 0 where
   pub order : InOrder now
   pub once : AreDistinct now
   pub needed : are_needed now ≡ true
   pub rows : (t : ThreadKey) → above position (rows_in now t) ≡ above position (rows_in old t)
   pub capacity : (t : ThreadKey) → reserved_in now t ≡ reserved_in old t
+  pub cool : (t : ThreadKey) → length (hot_in now t) ≤ length (hot_in old t)
   pub notify : min (dropped.notify + rows_left_to_cut position now) largest_count ≡ min
       (rows_left_to_cut position old) largest_count
   pub highlight : min (dropped.highlight + highlights_left_to_cut position now) largest_count ≡ min
       (highlights_left_to_cut position old) largest_count
   pub notify_fits : dropped.notify ≤ largest_count
   pub highlight_fits : dropped.highlight ≤ largest_count
+  pub opened : opened_now + threads_left_to_cut position now ≤ opened_before + threads_left_to_cut position old
 
 -- ---- rows
 

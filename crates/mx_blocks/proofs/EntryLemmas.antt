@@ -1,5 +1,5 @@
 -- Threads in the order of their first rows: look-ups, and what a move leaves.
-use Rattle.std.proofs.Common.{◌≡◌, ℕ, zero, suc, ◌+◌, ◌<◌, ◌≤◌, Bool, true, false, cond, not, ◌&&◌, ◌||◌, List, [], ◌∷◌, length, map, sum_by, get_or, insert, remove, position, slice_get, Option, Some, option_map, refl, sym, ap, ◌∙◌, subst, ⊎_elim, arith}
+use Rattle.std.proofs.Common.{◌≡◌, ℕ, zero, suc, ◌+◌, ◌<◌, ◌≤◌, Bool, true, false, cond, not, ◌&&◌, ◌||◌, List, [], ◌∷◌, ◌++◌, length, map, sum_by, get_or, insert, remove, position, slice_get, Option, Some, option_map, refl, sym, ap, ◌∙◌, subst, ⊎_elim, arith}
 use Rattle.std.proofs.lemmas.Bool.{cases_lt, cond_both, false≢true}
 use Rattle.std.proofs.Math.ListN.{get_or-map}
 use Rattle.std.proofs.lemmas.List.{length-map}
@@ -19,6 +19,7 @@ use Rattle.mx_rows.specs.declared.row.Row.{Row}
 use Rattle.mx_rows.specs.declared.thread_key.ThreadKey.{ThreadKey}
 use Rattle.mx_blocks.specs.declared.thread_rows.ThreadRows.{ThreadRows}
 use Rattle.mx_rows.proofs.EntryLemmas.{cond_same, get_or_of_slice_get, IsNonDecreasingBy-remove, no_rows, some_at, some_same}
+use Rattle.mx_blocks.specs.Block.{packed_rows}
 use Rattle.mx_blocks.specs.Entries.{Entries, InOrder, is_spent, IsPlace, rows_in, start_at, thread_rows}
 use Rattle.mx_rows.specs.Rows.{has_rows}
 use Rattle.mx_rows.specs.Threads.{same_thread, same_thread-equiv}
@@ -69,6 +70,14 @@ spent_parts kept spent = by (has_rows (thread_rows kept)) kept.reserved refl ref
     by false false none free spent = (no_rows _ none, free)
     by false true none free spent = absurd (false≢true spent)
     by true b none free spent = absurd (false≢true spent)
+
+-- nor hot rows
+pub spent_hot : (kept : ThreadRows) → is_spent kept ≡ true → kept.hot.items ≡ []
+spent_hot kept spent = by (packed_rows kept.blocks.items) kept.hot.items (spent_parts kept spent).0
+  where
+    by : (xs ys : List Row) → xs ++ ys ≡ [] → ys ≡ []
+    by [] ys none = none
+    by (x ∷ xs) ys none = absurd (cc)
 
 pub found_at : (es : Entries) (i : ℕ) (e : ThreadKey × ThreadRows) → IsDistinct same_thread (keys_of es)
     → slice_get es i ≡ Some e → lookup (same_thread e.0) es ≡ Some e.1

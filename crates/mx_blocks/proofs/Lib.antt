@@ -4,6 +4,7 @@ pub mod BlockLemmas
 pub mod PackLemmas
 pub mod ThreadLemmas
 pub mod EntryLemmas
+pub mod StartLemmas
 pub mod NeededLemmas
 pub mod CutLemmas
 pub mod OrderLemmas

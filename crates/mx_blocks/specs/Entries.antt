@@ -1,5 +1,5 @@
 -- The threads that are kept, with their rows, in the order of these; for private clauses.
-use Rattle.std.specs.Prelude.{ℕ, ◌<◌, ◌≤◌, Bool, false, not, ◌||◌, List, [], length, count_by, remove, slice_index_or, sum_by}
+use Rattle.std.specs.Prelude.{ℕ, ◌<◌, ◌≤◌, nat_le, Bool, false, not, ◌||◌, List, [], length, count_by, remove, slice_index_or, sum_by}
 use Rattle.std.specs.List.{IsDistinct, list_all}
 use Rattle.std.specs.List.Sorted.{IsNonDecreasingBy}
 use Rattle.std.specs.Map.{keys_of, lookup}
@@ -73,3 +73,7 @@ rows_left_to_cut position entries =
 abbrev pub highlights_left_to_cut : ℕ → Entries → ℕ
 highlights_left_to_cut position entries =
     sum_by (λ entry. count_by (λ row. row.highlight) (upto position (thread_rows entry.1))) entries
+
+-- how many threads start at or below the position
+abbrev pub threads_left_to_cut : ℕ → Entries → ℕ
+threads_left_to_cut position entries = count_by (λ entry. nat_le (start_at entry) position) entries

@@ -1,8 +1,8 @@
-ghost use Rattle.std.specs.Prelude.{◌≡◌, true, ℕ, ◌+◌, ◌<◌, ◌≤◌, min, if◌then◌else◌, List, [], length, insert, remove, slice_get, slice_index_or, Some, IfSome, IfNone};
+ghost use Rattle.std.specs.Prelude.{◌≡◌, true, ℕ, ◌+◌, ◌<◌, ◌≤◌, min, nat_le, if◌then◌else◌, List, [], length, insert, remove, slice_get, slice_index_or, Some, IfSome, IfNone};
 ghost use Rattle.indexmap.specs.IndexMap.{set_value_at};
 ghost use Rattle.mx_rows.specs.declared.thread_key.ThreadKey.{ThreadKey};
 ghost use Rattle.mx_blocks.specs.declared.thread_rows.ThreadRows.{ThreadRows};
-ghost use Rattle.mx_blocks.specs.Entries.{are_needed, AreDistinct, Entry, highlights_left_to_cut, hot_in, InOrder, is_spent, IsPlace, reserved_in, rows_in, rows_left_to_cut, start_at, thread_rows};
+ghost use Rattle.mx_blocks.specs.Entries.{are_needed, AreDistinct, Entry, highlights_left_to_cut, hot_in, InOrder, is_spent, IsPlace, reserved_in, rows_in, rows_left_to_cut, start_at, thread_rows, threads_left_to_cut};
 ghost use Rattle.mx_rows.specs.Rows.{above, counts_in, largest_count, start_of, upto};
 ghost use Rattle.mx_rows.specs.Threads.{same_thread};
 
@@ -57,6 +57,10 @@ pub fn cut_at(threads: &mut Threads, index: usize, position: u64, opened: &mut u
         ≡ rows_left_to_cut position threads.old.entries }
     ensures fewer_highlights { highlights_left_to_cut position threads.new.entries + result.highlight
         ≡ highlights_left_to_cut position threads.old.entries }
+    ensures fewer_threads { (e : Entry) → slice_get threads.old.entries index ≡ Some e
+        → threads_left_to_cut position threads.new.entries
+        + (if nat_le (start_at e) position then 1 else 0)
+        ≡ threads_left_to_cut position threads.old.entries }
     ensures opened { opened.new ≤ opened.old + 1 }
 {
     let dropped = cut_in_place(threads, index, position, opened);
@@ -84,6 +88,7 @@ pub fn cut_every(threads: &mut Threads, position: u64, opened: &mut u64) -> Coun
         ≡ min (rows_left_to_cut position threads.old.entries) largest_count }
     ensures highlight { result.highlight
         ≡ min (highlights_left_to_cut position threads.old.entries) largest_count }
+    ensures opened { opened.new ≤ opened.old + threads_left_to_cut position threads.old.entries }
 {
     let mut dropped = NONE;
     while let Some(index) = last_upto(threads, position) {

@@ -41,6 +41,18 @@ returns-clause-rows c = λ t.
     (found_at es c.args.index
     (key, v) c.pair_mut-kept.ensures.unique c.pair_mut-kept.ensures.value) updated.0 c.reserve.ensures.rows t
 
+pub returns-clause-hot : goal.returns-clause-hot
+returns-clause-hot c = λ t.
+    let es = c.args.threads.now.entries in
+    let key = c.pair_mut-kept.result.0.now in
+    let v = c.pair_mut-kept.result.1.now in
+    let updated = updates-with_value_at c.args.threads.now c.args.index c.reserve.new.self
+    same_thread-equiv c.pair_mut-kept.ensures.unique key v c.pair_mut-kept.ensures.value in
+    read_same es (set_value_at es c.args.index c.reserve.new.self) key (Some v) (Some c.reserve.new.self)
+    (λ o. option_map_or (λ kept. kept.hot.items) o [])
+    (found_at es c.args.index
+    (key, v) c.pair_mut-kept.ensures.unique c.pair_mut-kept.ensures.value) updated.0 c.reserve.ensures.hot t
+
 pub returns-clause-capacity : goal.returns-clause-capacity
 returns-clause-capacity c = λ e t is.
     let es = c.args.threads.now.entries in

@@ -12,7 +12,7 @@ returns-clause-before c =
     let p : ThreadKey × ThreadRows → _ = λ e. nat_le (start_at e) c.args.start in
     let parted = c.partition_point.ensures.partitioned p
     (always_returns_same _ (λ a r. r ≡ p (a.0.now, a.1.0.now)) _ (λ a r f' called. search rules))
-    (IsPartitionedBy-leb start_at c.args.threads.now.entries c.args.start c.requires) in
+    c.requires in
     λ k d below. leb-true _ _ (parted.0 k d (omega arith) below)
 
 pub returns-clause-after : goal.returns-clause-after
@@ -20,5 +20,5 @@ returns-clause-after c =
     let p : ThreadKey × ThreadRows → _ = λ e. nat_le (start_at e) c.args.start in
     let parted = c.partition_point.ensures.partitioned p
     (always_returns_same _ (λ a r. r ≡ p (a.0.now, a.1.0.now)) _ (λ a r f' called. search rules))
-    (IsPartitionedBy-leb start_at c.args.threads.now.entries c.args.start c.requires) in
+    c.requires in
     λ k d from below. leb-false _ _ (parted.1 k d from below)
