@@ -8,3 +8,4 @@ pub mod StartLemmas
 pub mod NeededLemmas
 pub mod CutLemmas
 pub mod OrderLemmas
+pub mod UnpackLemmas

@@ -1,4 +1,5 @@
-ghost use Rattle.std.specs.Prelude.{◌≡◌, ◌+◌, ◌≤◌, true, length, IfOk};
+ghost use Rattle.std.specs.Prelude.{◌≡◌, ◌+◌, ◌≤◌, true, List, ◌++◌, length, IfOk, OnOk, OnErr};
+ghost use Rattle.mx_rows.specs.declared.row.Row.{Row};
 ghost use Rattle.mx_rows.specs.Rows.{above, counts_in, is_rising, start_of, upto};
 ghost use Rattle.mx_blocks.specs.Block.{block_rows, Kept};
 ghost use Rattle.mx_blocks.specs.Differences.{differences, IsPacked, total};
@@ -6,6 +7,7 @@ ghost use Rattle.mx_blocks.specs.Differences.{differences, IsPacked, total};
 use crate::counting::{counts_of, minus};
 use crate::marks::{Marks, count_marked, highlights_of};
 use crate::packing::packed_differences;
+use crate::unpacking::unpack;
 use crate::walk::walk;
 use mx_json::OutOfMemory;
 use mx_rows::{Counts, Row};
@@ -119,6 +121,24 @@ impl Block {
         ensures { result ≡ self.now.first + total (differences self.now.packed) }
     {
         self.last
+    }
+
+    /// Appends the rows that are left to `out`, which still begins with what it had after an error.
+    ///
+    /// # Errors
+    ///
+    /// `OutOfMemory` where the allocator has none.
+    pub fn rows_into(&self, out: &mut Vec<Row>) -> Result<(), OutOfMemory>
+        ensures ok { OnOk result (out.new.items ≡ out.old.items ++ block_rows self.now) }
+        ensures err { OnErr result ((rows : List Row) × (out.new.items ≡ out.old.items ++ rows)) }
+    {
+        unpack(
+            self.first,
+            &self.packed,
+            &self.highlights,
+            self.gone as usize,
+            out,
+        )
     }
 
     /// Drops the rows at or below the position, and answers what it dropped.

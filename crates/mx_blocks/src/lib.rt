@@ -9,8 +9,10 @@ mod cutting;
 mod difference;
 mod marks;
 mod packing;
+mod rotating;
 mod thread_rows;
 mod threads;
+mod unpacking;
 mod walk;
 
 pub use block::Block;

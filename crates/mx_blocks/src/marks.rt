@@ -25,7 +25,7 @@ fn mark(marks: &mut Marks, row: usize)
 }
 
 /// Whether a row is marked.
-fn is_marked(marks: &Marks, row: usize) -> bool
+pub fn is_marked(marks: &Marks, row: usize) -> bool
     requires { row < 256 }
     ensures { result ≡ mark_at marks.now row }
 {

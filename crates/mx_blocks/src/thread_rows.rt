@@ -1,5 +1,6 @@
-ghost use Rattle.std.specs.Prelude.{◌≡◌, ◌+◌, ◌-◌, ◌<◌, ◌≤◌, ◌^◌, not, nat_le, nat_lt, ◌||◌, true, false, if◌then◌else◌, [], ◌∷◌, ◌++◌, is_ok, All, IfOk, length, drop, take, vec_len, vec_capacity};
+ghost use Rattle.std.specs.Prelude.{◌≡◌, ◌+◌, ◌-◌, ◌<◌, ◌≤◌, ◌^◌, not, nat_le, nat_lt, ◌||◌, true, false, if◌then◌else◌, [], ◌∷◌, ◌++◌, is_ok, List, All, IfOk, OnOk, OnErr, length, drop, take, vec_len, vec_capacity};
 ghost use Rattle.std.specs.Result.{result_unwrap_or};
+ghost use Rattle.mx_rows.specs.declared.row.Row.{Row};
 ghost use Rattle.mx_rows.specs.Rows.{above, are_in_range, counts_in, has_rows, is_rising, start_of, upto};
 ghost use Rattle.mx_blocks.specs.Kept.{are_alive, rows_of_parts};
 
@@ -112,6 +113,33 @@ impl ThreadRows {
         self.hot.drain(..BLOCK_ROWS);
         self.blocks.push_back_reserved(block);
         Ok(BLOCK_ROWS as u32)
+    }
+
+    /// Appends the rows to `out`, which is as it was after an error.
+    pub fn rows_into(&self, out: &mut Vec<Row>) -> Result<(), OutOfMemory>
+        ensures ok { OnOk result (out.new.items
+            ≡ out.old.items ++ rows_of_parts self.now.blocks.items self.now.hot.items) }
+        ensures err { OnErr result (out.new.items ≡ out.old.items) }
+    {
+        let len = out.len();
+        if self.append_to(out).is_err() {
+            out.truncate(len);
+            return Err(OutOfMemory);
+        }
+        Ok(())
+    }
+
+    /// Appends the rows to `out`, which still begins with what it had after an error.
+    fn append_to(&self, out: &mut Vec<Row>) -> Result<(), OutOfMemory>
+        ensures ok { OnOk result (out.new.items
+            ≡ out.old.items ++ rows_of_parts self.now.blocks.items self.now.hot.items) }
+        ensures err { OnErr result ((rows : List Row) × (out.new.items ≡ out.old.items ++ rows)) }
+    {
+        for k in 0..self.blocks.len() {
+            self.blocks[k].rows_into(out)?;
+        }
+        out.extend_from_slice(&self.hot)?;
+        Ok(())
     }
 
     /// The position of the first row, and 2^64 where there is none.
