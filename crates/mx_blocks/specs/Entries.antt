@@ -7,6 +7,7 @@ use Rattle.std.specs.Option.{option_map_or}
 use Rattle.mx_rows.specs.declared.row.Row.{Row}
 use Rattle.mx_rows.specs.declared.thread_key.ThreadKey.{ThreadKey}
 use Rattle.mx_blocks.specs.declared.thread_rows.ThreadRows.{ThreadRows}
+use Rattle.mx_blocks.specs.Block.{Kept}
 use Rattle.mx_blocks.specs.Kept.{rows_of_parts}
 use Rattle.mx_rows.specs.Rows.{has_rows, start_of, upto}
 use Rattle.mx_rows.specs.Threads.{same_thread}
@@ -31,6 +32,11 @@ rows_in entries thread =
 abbrev pub hot_in : Entries → ThreadKey → List Row
 hot_in entries thread =
     option_map_or (λ kept. kept.hot.items) (lookup (same_thread thread) entries) []
+
+-- the blocks of a thread, and none where it isn't kept
+abbrev pub blocks_in : Entries → ThreadKey → List Kept
+blocks_in entries thread =
+    option_map_or (λ kept. kept.blocks.items) (lookup (same_thread thread) entries) []
 
 -- whether a thread has capacity for one row more
 abbrev pub reserved_in : Entries → ThreadKey → Bool

@@ -1,14 +1,16 @@
 -- The laws of `Rows` that the threads of `Blocks` meet whatever they are; for its impl alone.
-use Rattle.std.specs.Prelude.{◌≡◌, Bool, true, false, ◌||◌, [], ◌∷◌, Option, Some, None, is_some, refl}
+use Rattle.std.specs.Prelude.{◌≡◌, Bool, true, false, ◌||◌, List, [], ◌∷◌, ◌++◌, Option, Some, None, is_some, refl}
 use Rattle.std.proofs.Common.{sym, ◌∙◌}
 use Rattle.std.proofs.lemmas.Bool.{and_parts, cond_both}
 use Rattle.std.proofs.lemmas.Map.Keys.{IsDistinct-prop}
 use Rattle.std.proofs.lemmas.Map.Made.{is_some-lookup}
 use Rattle.std.specs.Map.{keys_of, lookup}
 use Rattle.std.specs.Option.{option_map_or}
+use Rattle.mx_rows.specs.declared.row.Row.{Row}
+use Rattle.mx_blocks.specs.Block.{packed_rows}
 use Rattle.mx_rows.specs.declared.thread_key.ThreadKey.{ThreadKey}
 use Rattle.mx_blocks.specs.declared.thread_rows.ThreadRows.{ThreadRows}
-use Rattle.mx_blocks.specs.Entries.{are_needed, AreDistinct, Entries, reserved_in, rows_in, thread_rows}
+use Rattle.mx_blocks.specs.Entries.{are_needed, AreDistinct, Entries, hot_in, reserved_in, rows_in, thread_rows}
 use Rattle.mx_rows.specs.Rows.{has_rows, is_rising}
 use Rattle.mx_rows.specs.Threads.{has_thread, same_thread}
 
@@ -35,7 +37,7 @@ kept-entries es t needed =
     ∙ by (lookup (same_thread t) es) (found_is_needed (same_thread t) es needed)
   where
     by : (o : Option ThreadRows) → is_needed o ≡ true
-        → is_some o ≡ (has_rows (option_map_or (λ kept. (thread_rows kept)) o [])
+        → is_some o ≡ (has_rows (option_map_or (λ kept. thread_rows kept) o [])
         || option_map_or (λ kept. kept.reserved) o false)
     by None needed = refl
     by (Some v) needed = sym needed
@@ -43,6 +45,17 @@ kept-entries es t needed =
 pub is_rising-rows_in : (es : Entries) (t : ThreadKey) → is_rising (rows_in es t) ≡ true
 is_rising-rows_in es t = by (lookup (same_thread t) es)
   where
-    by : (o : Option ThreadRows) → is_rising (option_map_or (λ kept. (thread_rows kept)) o []) ≡ true
+    by : (o : Option ThreadRows) → is_rising (option_map_or (λ kept. thread_rows kept) o []) ≡ true
     by None = refl
     by (Some v) = v.rising
+
+-- the hot rows come last
+pub hot_last-rows_in : (es : Entries) (t : ThreadKey)
+    → (packed : List Row) × (rows_in es t ≡ packed ++ hot_in es t)
+hot_last-rows_in es t = by (lookup (same_thread t) es)
+  where
+    by : (o : Option ThreadRows)
+        → (packed : List Row) × (option_map_or (λ kept. thread_rows kept) o []
+        ≡ packed ++ option_map_or (λ kept. kept.hot.items) o [])
+    by None = ([], refl)
+    by (Some v) = (packed_rows v.blocks.items, refl)

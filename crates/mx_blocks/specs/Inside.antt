@@ -21,6 +21,7 @@ pub record IsBlock (block : Inside) : Type 0 where
   pub packed : IsPacked block.packed.items
   pub count : length (packed_positions (kept_of block)) ≡ 256
   pub last : block.first + total (differences block.packed.items) ≡ block.last
+  pub small : block.last < 2 ^ 64
   pub gone : block.gone ≤ 256
   pub sums : block.sums ≡ counts_in (block_rows (kept_of block))
   pub start : block.start ≡ start_of (block_rows (kept_of block))

@@ -5,3 +5,4 @@ pub mod Inside
 pub mod Kept
 pub mod Entries
 pub mod EntriesLaws
+pub mod Lists

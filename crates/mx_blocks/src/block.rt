@@ -55,6 +55,7 @@ impl Block {
         ensures rows { IfOk result (λ block. block_rows block ≡ rows.now) }
         ensures whole { IfOk result (λ block. block.gone ≡ 0) }
     {
+        let last = rows[BLOCK_ROWS - 1].position;
         let packed = packed_differences(alloc, rows)?;
         Ok(Block {
             first: rows[0].position,
@@ -63,7 +64,7 @@ impl Block {
             gone: 0,
             sums: counts_of(rows),
             start: u128::from(rows[0].position),
-            last: rows[BLOCK_ROWS - 1].position,
+            last,
         })
     }
 

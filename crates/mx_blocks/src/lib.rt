@@ -4,6 +4,7 @@
 mod adding;
 mod block;
 mod block_list;
+mod blocks;
 mod counting;
 mod cutting;
 mod difference;
@@ -16,3 +17,4 @@ mod unpacking;
 mod walk;
 
 pub use block::Block;
+pub use blocks::Blocks;

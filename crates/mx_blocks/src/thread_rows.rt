@@ -8,7 +8,7 @@ use crate::block::{BLOCK_ROWS, Block};
 use crate::block_list::cut_blocks;
 use crate::counting::{NONE, counts_upto, minus, plus, rows_upto};
 use mx_json::OutOfMemory;
-use mx_rows::{Counts, Row};
+use mx_rows::{Counts, Row, Sizes};
 use std::alloc::Global;
 use std::collections::VecDeque;
 
@@ -149,6 +149,19 @@ impl ThreadRows {
         match self.blocks.front() {
             Some(block) => block.start(),
             None => first_of(&self.hot),
+        }
+    }
+
+    /// How many rows are hot, and how many packed.
+    pub fn sizes(&self) -> Sizes
+        ensures hot { result.hot ≡ length self.now.hot.items }
+        ensures all { result.hot + result.packed
+            ≡ length (rows_of_parts self.now.blocks.items self.now.hot.items) }
+    {
+        let hot = self.hot.len() as u64;
+        Sizes {
+            hot,
+            packed: self.sums.notify - hot,
         }
     }
 

@@ -78,6 +78,5 @@ returns-clause-needed c =
     let e : Entry = (c.pair_mut-kept.result.0.now, c.pair_mut-kept.result.1.now) in
     let before = needed-at es c.args.index e c.requires.needed c.pair_mut-kept.ensures.value in
     let now : need (e.0, c.rotate.new.self) ≡ true
-    = (λ i. has_rows (c.rotate.ensures.rows i) || c.rotate.ensures.capacity i)
-    in
+    = (λ i. has_rows (c.rotate.ensures.rows i) || c.rotate.ensures.capacity i) ∙ before in
     needed-written es c.args.index e c.rotate.new.self c.pair_mut-kept.ensures.value now c.requires.needed

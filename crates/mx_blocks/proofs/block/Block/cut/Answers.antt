@@ -73,6 +73,7 @@ invariant_of-self c =
       packed = c.self.invariant.packed;
       count = c.self.invariant.count;
       last = c.self.invariant.last;
+      small = c.self.invariant.small;
       gone = let count = c.self.invariant.count in let parts = ap length split.parts in
           omega (arith, length-append split.done split.rest, split.count);
       sums = (λ i. record {

@@ -20,6 +20,7 @@ invariant_of-result c =
       packed = c.in_ok-packed.ensures.packed;
       count = ap length reads ∙ length-map rows (λ (row : Row). row.position) ∙ c.requires.count;
       last = c.in_ok-packed.ensures.last none ∙ ap (λ n. (get_or rows (n - 1) none).position) c.requires.count;
+      small = omega arith;
       gone = omega arith;
       sums = c.counts_of.ensures ∙ ap counts_in (sym is);
       start = c.from.ensures ∙ start_at_first rows none (let count = c.requires.count in omega arith)

@@ -1,0 +1,18 @@
+use Rattle.std.proofs.Common.{sym, ◌∙◌, ap}
+use Rattle.mx_rows.specs.Rows.{saturated}
+use Rattle.mx_blocks.proofs.OrderLemmas.{are_in_order-entries, counts_in-all}
+use Rattle.mx_blocks.proofs.blocks.BlocksRows.cut_all.Goals as goal
+
+pub invariant_of-self : goal.invariant_of-self
+invariant_of-self c = record {
+  once = c.cut_every.ensures.once;
+  needed = c.cut_every.ensures.needed;
+  order = c.cut_every.ensures.order;
+  with_rows_in_order =
+      are_in_order-entries c.cut_every.new.threads.entries c.cut_every.ensures.once c.cut_every.ensures.order;
+}
+
+pub returns-clause-dropped : goal.returns-clause-dropped
+returns-clause-dropped c =
+    (λ i. record { notify = c.cut_every.ensures.notify i; highlight = c.cut_every.ensures.highlight i })
+    ∙ sym (ap saturated (counts_in-all c.args.position c.args.self.now.threads.entries c.args.self.now.once))
