@@ -1,15 +1,13 @@
 -- Rows of a block: what a cut leaves of them and drops, and what packing makes of rows.
-use Rattle.std.proofs.Common.{◌≡◌, ℕ, zero, suc, ◌+◌, ◌-◌, ◌*◌, ◌/◌, ◌%◌, ◌^◌, ◌<◌, ◌≤◌, ◌⊎◌, inl, inr, nat_lt, nat_le, Bool, true, false, cond, ◌&&◌, List, [], ◌∷◌, ◌++◌, length, get_or, drop, take, map, filter, count_by, add-one, length-drop, refl, sym, ap, ◌∙◌, subst, ⊎_elim, arith}
-use Rattle.std.proofs.lemmas.Bool.{and_parts, and_from, cond-true, cond-false, cond_both, cases_lt, le-leb, lt-leb, lt-ltb, le-ltb, ltb-true, leb-true, false≢true}
-use Rattle.std.proofs.lemmas.List.{append-nil, drop-append-le, length-append}
+use Rattle.std.proofs.Common.{◌≡◌, ℕ, zero, suc, ◌+◌, ◌-◌, ◌^◌, ◌<◌, ◌≤◌, ◌⊎◌, inl, inr, nat_lt, nat_le, Bool, true, cond, List, [], ◌∷◌, ◌++◌, length, drop, count_by, length-drop, refl, sym, ap, ◌∙◌, ⊎_elim, arith}
+use Rattle.std.proofs.lemmas.Bool.{and_parts, and_from, cond-true, cond-false, cases_lt, le-leb, lt-leb, lt-ltb, le-ltb, leb-true}
+use Rattle.std.proofs.lemmas.List.{append-nil, drop-append-le}
 use Rattle.std.proofs.Math.Seq.{drop-nil}
 use Rattle.std.proofs.lemmas.List.Elements.{filter-append}
-use Rattle.std.proofs.lemmas.List.Folds.{list_all-append}
-use Rattle.std.proofs.lemmas.List.Sums.{count_by-le-length, sum_by-append, sum_by-cons}
+use Rattle.std.proofs.lemmas.List.Sums.{sum_by-cons}
 use Rattle.std.specs.List.{list_all, range_with_len}
-use Rattle.mx_rows.specs.declared.counts.Counts.{Counts}
 use Rattle.mx_rows.specs.declared.row.Row.{Row}
-use Rattle.mx_rows.specs.Rows.{above, counts_in, has_rows, is_rising, start_of, upto}
+use Rattle.mx_rows.specs.Rows.{above, counts_in, start_of, upto}
 use Rattle.mx_rows.proofs.CutLemmas.{above-all, upto-none}
 use Rattle.mx_blocks.specs.Block.{mark_at, rows_from}
 use Rattle.mx_blocks.specs.Differences.{differences, IsFirstBelow, IsPacked, positions, total}
@@ -185,21 +183,38 @@ counts-split x [] = (refl, refl)
 counts-split x (row ∷ rows) =
     let rest = counts-split x rows in
     let here = sum_by-cons (λ (row : Row). cond row.highlight 1 0) row rows in
-    ⊎_elim (λ over. (omega (arith, rest.0, ap length (drops over), ap length (leaves over)),
-    omega (arith, rest.1, here, ap (count_by (λ (row : Row). row.highlight)) (drops over),
-    ap (count_by (λ (row : Row). row.highlight)) (leaves over),
-    sum_by-cons (λ (row : Row). cond row.highlight 1 0) row (above x rows))))
-    (λ under. (omega (arith, rest.0, ap length (takes under), ap length (loses under)),
-    omega (arith, rest.1, here, ap (count_by (λ (row : Row). row.highlight)) (takes under),
-    ap (count_by (λ (row : Row). row.highlight)) (loses under),
-    sum_by-cons (λ (row : Row). cond row.highlight 1 0) row (upto x rows)))) (cases_lt x row.position)
+    ⊎_elim (λ over. (
+      omega (arith, rest.0, ap length (drops over), ap length (leaves over)),
+      omega (
+        arith,
+        rest.1,
+        here,
+        ap (count_by (λ (row : Row). row.highlight)) (drops over),
+        ap (count_by (λ (row : Row). row.highlight)) (leaves over),
+        sum_by-cons (λ (row : Row). cond row.highlight 1 0) row (above x rows),
+      ),
+    ))
+    (λ under. (
+      omega (arith, rest.0, ap length (takes under), ap length (loses under)),
+      omega (
+        arith,
+        rest.1,
+        here,
+        ap (count_by (λ (row : Row). row.highlight)) (takes under),
+        ap (count_by (λ (row : Row). row.highlight)) (loses under),
+        sum_by-cons (λ (row : Row). cond row.highlight 1 0) row (upto x rows),
+      ),
+    )) (cases_lt x row.position)
   where
     drops : x < row.position → upto x (row ∷ rows) ≡ upto x rows
     drops over = cond-false _ _ _ (lt-leb _ _ over)
+
     leaves : x < row.position → above x (row ∷ rows) ≡ row ∷ above x rows
     leaves over = cond-true _ _ _ (lt-ltb _ _ over)
+
     takes : row.position ≤ x → upto x (row ∷ rows) ≡ row ∷ upto x rows
     takes under = cond-true _ _ _ (le-leb _ _ under)
+
     loses : row.position ≤ x → above x (row ∷ rows) ≡ above x rows
     loses under = cond-false _ _ _ (le-ltb _ _ under)
 

@@ -1,11 +1,10 @@
 -- A cut of every thread: what stays true from one thread to the next, and what is left at the end.
-use Rattle.std.proofs.Common.{◌≡◌, ℕ, ◌+◌, ◌<◌, ◌≤◌, min, nat_lt, nat_le, true, List, [], ◌∷◌, length, count_by, get_or, Option, Some, None, refl, sym, ap, ◌∙◌, subst, arith}
-use Rattle.std.proofs.lemmas.Bool.{and_parts, and_from, cond-true, cond-false, cond_both, le-leb, lt-leb, lt-ltb, ltb-true}
+use Rattle.std.proofs.Common.{◌≡◌, ℕ, ◌+◌, ◌<◌, ◌≤◌, min, nat_lt, true, [], length, count_by, get_or, Option, Some, None, refl, ap, subst, arith}
 use Rattle.std.proofs.lemmas.List.Sums.{sum_by-le}
 use Rattle.std.proofs.lemmas.Map.Entries.{place_from_lookup}
 use Rattle.std.proofs.lemmas.Option.{slice_get_within}
-use Rattle.std.specs.List.{IsDistinct, list_all}
-use Rattle.std.specs.Map.{keys_of, lookup}
+use Rattle.std.specs.List.{list_all}
+use Rattle.std.specs.Map.{lookup}
 use Rattle.std.specs.Option.{option_map_or}
 use Rattle.mx_rows.specs.declared.counts.Counts.{Counts}
 use Rattle.mx_rows.specs.declared.row.Row.{Row}
@@ -14,7 +13,7 @@ use Rattle.mx_blocks.specs.declared.thread_rows.ThreadRows.{ThreadRows}
 use Rattle.mx_rows.proofs.CutLemmas.{above-all, all_above_start, upto-none}
 use Rattle.mx_rows.proofs.EntryLemmas.{get_or_of_slice_get}
 use Rattle.mx_blocks.specs.Entries.{are_needed, AreDistinct, Entries, highlights_left_to_cut, hot_in, InOrder, reserved_in, rows_in, rows_left_to_cut, start_at, thread_rows, threads_left_to_cut}
-use Rattle.mx_rows.specs.Rows.{above, is_rising, largest_count, start_of, upto}
+use Rattle.mx_rows.specs.Rows.{above, largest_count, upto}
 use Rattle.mx_rows.specs.Threads.{same_thread}
 
 -- after some threads were cut, the rest of the work is what a cut of every thread still does

@@ -2,7 +2,7 @@
 use Rattle.std.proofs.Common.{◌≡◌, ℕ, zero, suc, ◌+◌, ◌-◌, ◌*◌, ◌/◌, ◌%◌, ◌<◌, ◌≤◌, nat_lt, List, [], ◌∷◌, ◌++◌, length, get_or, drop, add-one, refl, sym, ap, ◌∙◌, subst, ⊎_elim, arith}
 use Rattle.std.proofs.Math.Seq.{drop-cons}
 use Rattle.std.proofs.lemmas.Bool.{cond-true, cond-false, cases_lt, le-ltb, lt-ltb}
-use Rattle.mx_blocks.specs.Differences.{differences, IsFirstBelow, IsPacked, total, positions, with_low}
+use Rattle.mx_blocks.specs.Differences.{differences, IsFirstBelow, IsPacked, with_low}
 
 -- ---- one byte and those behind it
 

@@ -1,17 +1,16 @@
 -- Threads in the order of their first rows: look-ups, and what a move leaves.
-use Rattle.std.proofs.Common.{◌≡◌, ℕ, zero, suc, ◌+◌, ◌<◌, ◌≤◌, Bool, true, false, cond, not, ◌&&◌, ◌||◌, List, [], ◌∷◌, ◌++◌, length, map, sum_by, get_or, insert, remove, position, slice_get, Option, Some, option_map, refl, sym, ap, ◌∙◌, subst, ⊎_elim, arith}
-use Rattle.std.proofs.lemmas.Bool.{cases_lt, cond_both, false≢true}
+use Rattle.std.proofs.Common.{◌≡◌, ℕ, zero, suc, ◌+◌, ◌<◌, Bool, true, false, cond, not, ◌||◌, List, [], ◌∷◌, ◌++◌, length, map, sum_by, get_or, insert, remove, position, slice_get, Option, Some, option_map, refl, sym, ap, ◌∙◌, arith}
+use Rattle.std.proofs.lemmas.Bool.{cond_both, false≢true}
 use Rattle.std.proofs.Math.ListN.{get_or-map}
 use Rattle.std.proofs.lemmas.List.{length-map}
-use Rattle.std.proofs.lemmas.List.Edits.{get_or-remove_above, get_or-remove_below, length-remove}
+use Rattle.std.proofs.lemmas.List.Edits.{length-remove}
 use Rattle.std.proofs.lemmas.List.Sums.{sum_by-insert, sum_by-remove}
 use Rattle.std.proofs.lemmas.List.Sorted.{IsNonDecreasingBy-insert}
 use Rattle.std.proofs.lemmas.List.Quantifiers.{position-Some}
 use Rattle.std.proofs.lemmas.Map.Entries.{length-keys_of, lookup_from_place}
-use Rattle.std.proofs.lemmas.Option.{get_or_from_slice_get, slice_get-get_or, slice_get-map, slice_get_cases, slice_get_within}
+use Rattle.std.proofs.lemmas.Option.{get_or_from_slice_get, slice_get-map, slice_get_within}
 use Rattle.std.specs.HashMap.Eq.{lookup_congr}
 use Rattle.std.specs.List.{IsDistinct}
-use Rattle.std.specs.List.Sorted.{IsNonDecreasingBy}
 use Rattle.std.specs.Map.{keys_of, lookup}
 use Rattle.std.specs.Option.{option_map_or}
 use Rattle.indexmap.specs.IndexMap.{set_value_at}
@@ -20,7 +19,7 @@ use Rattle.mx_rows.specs.declared.thread_key.ThreadKey.{ThreadKey}
 use Rattle.mx_blocks.specs.declared.thread_rows.ThreadRows.{ThreadRows}
 use Rattle.mx_rows.proofs.EntryLemmas.{cond_same, get_or_of_slice_get, IsNonDecreasingBy-remove, no_rows, some_at, some_same}
 use Rattle.mx_blocks.specs.Block.{packed_rows}
-use Rattle.mx_blocks.specs.Entries.{Entries, InOrder, is_spent, IsPlace, rows_in, start_at, thread_rows}
+use Rattle.mx_blocks.specs.Entries.{hot_in, Entries, InOrder, is_spent, IsPlace, rows_in, start_at, thread_rows}
 use Rattle.mx_rows.specs.Rows.{has_rows}
 use Rattle.mx_rows.specs.Threads.{same_thread, same_thread-equiv}
 
@@ -180,4 +179,12 @@ pub rows_found : (es : Entries) (t : ThreadKey) (i : ℕ) (e : ThreadKey × Thre
     → (thread_rows e.1) ≡ rows_in es t
 rows_found es t i e once is same =
     sym (ap (λ o. option_map_or (λ (kept : ThreadRows). (thread_rows kept)) o [])
+    (lookup_congr same_thread same_thread-equiv.congr es t e.0 same ∙ found_at es i e once is))
+
+-- the hot rows of the thread that an entry was found by
+pub hot_found : (es : Entries) (t : ThreadKey) (i : ℕ) (e : ThreadKey × ThreadRows)
+    → IsDistinct same_thread (keys_of es) → slice_get es i ≡ Some e → same_thread t e.0 ≡ true
+    → e.1.hot.items ≡ hot_in es t
+hot_found es t i e once is same =
+    sym (ap (λ o. option_map_or (λ (kept : ThreadRows). kept.hot.items) o [])
     (lookup_congr same_thread same_thread-equiv.congr es t e.0 same ∙ found_at es i e once is))

@@ -3,7 +3,8 @@ use Rattle.std.proofs.Common.{◌≡◌, ℕ, zero, suc, ◌+◌, ◌<◌, ◌�
 use Rattle.std.proofs.lemmas.Bool.{and_parts, and_from, cond-true, cond-false, cond_both, false≢true, le-leb, leb-true, ltb-true}
 use Rattle.std.proofs.lemmas.List.{length-append}
 use Rattle.std.proofs.lemmas.List.Elements.{filter-append}
-use Rattle.std.proofs.lemmas.List.Sums.{sum_by-append, sum_by-cons}
+use Rattle.std.proofs.lemmas.List.Sums.{length-filter, sum_by-append, sum_by-cons}
+use Rattle.std.proofs.lemmas.Map.Entries.{length-keys_of}
 use Rattle.std.proofs.lemmas.Option.{slice_get-map}
 use Rattle.std.specs.List.{IsDistinct, list_all}
 use Rattle.std.specs.List.Sorted.{IsNonDecreasingBy}
@@ -12,7 +13,7 @@ use Rattle.std.specs.Option.{option_map_or}
 use Rattle.mx_rows.specs.declared.row.Row.{Row}
 use Rattle.mx_rows.specs.declared.thread_key.ThreadKey.{ThreadKey}
 use Rattle.mx_blocks.specs.declared.thread_rows.ThreadRows.{ThreadRows}
-use Rattle.mx_blocks.specs.Entries.{Entries, highlights_left_to_cut, InOrder, rows_in, rows_left_to_cut, start_at, thread_rows}
+use Rattle.mx_blocks.specs.Entries.{threads_left_to_cut, Entries, highlights_left_to_cut, InOrder, rows_in, rows_left_to_cut, start_at, thread_rows}
 use Rattle.mx_rows.specs.Rows.{are_in_order, are_in_range, counts_in, has_rows, never_falls, start_of, upto, with_rows}
 use Rattle.mx_rows.specs.Threads.{same_thread}
 use Rattle.mx_blocks.proofs.EntryLemmas.{found_at}
@@ -212,3 +213,32 @@ pub counts_in-all : (p : ℕ) (es : Entries) → IsDistinct same_thread (keys_of
 counts_in-all p es once =
     ap (λ rows. counts_in (upto p rows)) (flat_map-entries (rows_in es) es (agrees es once))
     ∙ (λ i. record { notify = length-upto-all p es i; highlight = highlights-upto-all p es i })
+
+-- ---- threads that a cut of every thread cuts
+
+one_more : (p : ℕ) (rows : List Row) → p < 18446744073709551616
+    → cond (nat_le (start_of rows) p) 1 0 ≤ cond (has_rows rows) 1 0
+one_more p [] small =
+    cond_both (nat_le 18446744073709551616 p) 1 0 (λ (n : ℕ). n ≤ 0)
+    (λ past. absurd (let over = leb-true 18446744073709551616 p past in omega arith)) (λ _. omega arith)
+one_more p (row ∷ rows) small =
+    cond_both (nat_le row.position p) 1 0 (λ n. n ≤ 1) (λ _. omega arith) (λ _. omega arith)
+
+left-le-some : (p : ℕ) (es : Entries) → p < 18446744073709551616
+    → threads_left_to_cut p es ≤ count_by (λ (e : ThreadKey × ThreadRows). has_rows (thread_rows e.1)) es
+left-le-some p [] small = omega arith
+left-le-some p (e ∷ es) small =
+    let rest = left-le-some p es small in
+    let one = one_more p (thread_rows e.1) small in
+    let left = sum_by-cons (λ (x : ThreadKey × ThreadRows). cond (nat_le (start_at x) p) 1 0) e es in
+    let some = sum_by-cons (λ (x : ThreadKey × ThreadRows). cond (has_rows (thread_rows x.1)) 1 0) e es in
+    omega arith
+
+pub left-le-with_rows : (p : ℕ) (es : Entries) → p < 18446744073709551616 → IsDistinct same_thread (keys_of es)
+    → threads_left_to_cut p es ≤ length (with_rows (rows_in es) (keys_of es))
+left-le-with_rows p es small once =
+    let keys = ap length (with_rows-entries (rows_in es) es (agrees es once)) in
+    let long = length-keys_of (filter (λ (e : ThreadKey × ThreadRows). has_rows (thread_rows e.1)) es) in
+    let count = length-filter (λ (e : ThreadKey × ThreadRows). has_rows (thread_rows e.1)) es in
+    let few = left-le-some p es small in
+    omega arith

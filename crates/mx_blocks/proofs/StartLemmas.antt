@@ -1,5 +1,5 @@
 -- Where threads start after a cut, and where a thread that starts later than it did stands among the others.
-use Rattle.std.proofs.Common.{◌≡◌, ◌≢◌, ℕ, zero, suc, ◌+◌, ◌<◌, ◌≤◌, nat_lt, nat_le, Bool, true, false, cond, List, [], ◌∷◌, length, get_or, remove, slice_get, Some, refl, sym, ap, ◌∙◌, subst, ⊎_elim, arith}
+use Rattle.std.proofs.Common.{◌≡◌, ◌≢◌, ℕ, zero, suc, ◌<◌, ◌≤◌, nat_lt, nat_le, true, List, [], ◌∷◌, length, get_or, slice_get, Some, refl, sym, ap, ◌∙◌, subst, ⊎_elim, arith}
 use Rattle.std.proofs.lemmas.Bool.{and_parts, cases_eq, cases_lt, cond_both, le-leb, leb-true, ltb-true}
 use Rattle.std.proofs.lemmas.List.{get_or_default}
 use Rattle.std.proofs.lemmas.Option.{slice_get_within}
@@ -10,7 +10,7 @@ use Rattle.mx_rows.specs.declared.row.Row.{Row}
 use Rattle.mx_rows.specs.declared.thread_key.ThreadKey.{ThreadKey}
 use Rattle.mx_rows.specs.Rows.{above, are_in_range, is_rising, start_of}
 use Rattle.mx_rows.proofs.EntryLemmas.{get_or_of_slice_get, some_same}
-use Rattle.mx_rows.proofs.RowLemmas.{list_all-filter, start_of-le}
+use Rattle.mx_rows.proofs.RowLemmas.{list_all-filter}
 use Rattle.mx_blocks.specs.declared.thread_rows.ThreadRows.{ThreadRows}
 use Rattle.mx_blocks.specs.Entries.{Entries, InOrder, IsPlace, start_at}
 use Rattle.mx_blocks.proofs.EntryLemmas.{remove-set_value_at}

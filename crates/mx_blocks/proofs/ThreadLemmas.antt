@@ -1,13 +1,13 @@
 -- The rows of a thread: what a cut does to its blocks, one after another, and what packing leaves as it is.
-use Rattle.std.proofs.Common.{◌≡◌, ℕ, zero, suc, ◌+◌, ◌-◌, ◌<◌, ◌≤◌, nat_lt, nat_le, Bool, true, false, cond, ◌&&◌, List, [], ◌∷◌, ◌++◌, length, take, drop, filter, count_by, All, length-append, append_assoc, append-nil, refl, sym, ap, ◌∙◌, subst, ⊎_elim, arith}
-use Rattle.std.proofs.lemmas.Bool.{and_parts, and_from, cond-true, cond-false, cond_both, cases_lt, le-leb, le-ltb, lt-ltb, ltb-true, leb-true, leb-false, false≢true}
+use Rattle.std.proofs.Common.{◌≡◌, ℕ, ◌+◌, ◌<◌, ◌≤◌, nat_lt, nat_le, true, false, cond, List, [], ◌∷◌, ◌++◌, length, drop, count_by, length-append, append_assoc, append-nil, refl, sym, ap, ◌∙◌, ⊎_elim, arith}
+use Rattle.std.proofs.lemmas.Bool.{and_parts, and_from, cond-true, cond-false, cond_both, cases_lt, le-ltb, lt-ltb, ltb-true, leb-false, false≢true}
 use Rattle.std.proofs.lemmas.List.Elements.{filter-append}
 use Rattle.std.proofs.lemmas.List.Folds.{list_all-append}
 use Rattle.std.proofs.lemmas.List.Sums.{count_by-le-length, length-filter, sum_by-append, sum_by-cons}
 use Rattle.std.specs.List.{list_all}
 use Rattle.mx_rows.specs.declared.counts.Counts.{Counts}
 use Rattle.mx_rows.specs.declared.row.Row.{Row}
-use Rattle.mx_rows.specs.Rows.{above, are_in_range, counts_in, has_rows, is_rising, start_of, upto}
+use Rattle.mx_rows.specs.Rows.{above, counts_in, has_rows, is_rising, upto}
 use Rattle.mx_rows.proofs.CutLemmas.{above-all, upto-none}
 use Rattle.mx_blocks.specs.Block.{block_rows, Kept, mark_at, packed_positions, packed_rows, rows_from}
 use Rattle.mx_blocks.specs.Differences.{differences, positions, total}
@@ -130,8 +130,11 @@ DropsOn-more p old b bs dropped sums more before ends is notify highlight =
 pub upto_fits : (p : ℕ) (rows : List Row) → (length (upto p rows) ≤ length rows)
     × (count_by (λ (row : Row). row.highlight) (upto p rows) ≤ length rows)
 upto_fits p rows =
-    let some : length (upto p rows) ≤ length rows = omega (arith, length-filter (λ (row : Row). nat_le row.position p) rows,
-    count_by-le-length (λ (row : Row). nat_le row.position p) rows) in
+    let some : length (upto p rows) ≤ length rows = omega (
+      arith,
+      length-filter (λ (row : Row). nat_le row.position p) rows,
+      count_by-le-length (λ (row : Row). nat_le row.position p) rows,
+    ) in
     (some, omega (arith, some, count_by-le-length (λ (row : Row). row.highlight) (upto p rows)))
 
 -- what one block more drops is no more than all drop
@@ -139,9 +142,10 @@ pub DropsOn-fits : (p : ℕ) (old : List Kept) (b : Kept) (bs : List Kept) (drop
     → DropsOn p old (b ∷ bs) dropped → last_of b ≤ p → sums ≡ counts_in (block_rows b)
     → (dropped.notify + sums.notify ≤ length (packed_rows old)) × (dropped.highlight + sums.highlight ≤ length (packed_rows old))
 DropsOn-fits p old b bs dropped sums before ends is =
-    let upto_all = upto_fits p (packed_rows old) in
-    (omega (arith, before.notify, whole-notify p b bs ends, ap (λ (n : Counts). n.notify) is, upto_all.0),
-    omega (arith, before.highlight, whole-highlight p b bs ends, ap (λ (n : Counts). n.highlight) is, upto_all.1))
+    let upto_all = upto_fits p (packed_rows old) in (
+      omega (arith, before.notify, whole-notify p b bs ends, ap (λ (n : Counts). n.notify) is, upto_all.0),
+      omega (arith, before.highlight, whole-highlight p b bs ends, ap (λ (n : Counts). n.highlight) is, upto_all.1),
+    )
 
 -- ---- the first block that is left
 
@@ -174,15 +178,22 @@ module _ (p : ℕ) (b b' : Kept) (bs : List Kept) (rising : is_rising (packed_ro
 module _ (p : ℕ) (xs ys : List Row) where
   pub both-notify : length (upto p xs) + length (upto p ys) + length (above p (xs ++ ys)) ≡ length (xs ++ ys)
   both-notify =
-      omega (arith, (counts-split p (xs ++ ys)).0, length-append (upto p xs) (upto p ys),
-      ap length (filter-append (λ (row : Row). nat_le row.position p) xs ys))
+      omega (
+        arith,
+        (counts-split p (xs ++ ys)).0,
+        length-append (upto p xs) (upto p ys),
+        ap length (filter-append (λ (row : Row). nat_le row.position p) xs ys),
+      )
 
   pub both-highlight : count_by (λ (row : Row). row.highlight) (upto p xs) + count_by (λ (row : Row). row.highlight) (upto p ys)
       + count_by (λ (row : Row). row.highlight) (above p (xs ++ ys)) ≡ count_by (λ (row : Row). row.highlight) (xs ++ ys)
   both-highlight =
-      omega (arith, (counts-split p (xs ++ ys)).1,
-      sum_by-append (λ (row : Row). cond row.highlight 1 0) (upto p xs) (upto p ys),
-      ap (count_by (λ (row : Row). row.highlight)) (filter-append (λ (row : Row). nat_le row.position p) xs ys))
+      omega (
+        arith,
+        (counts-split p (xs ++ ys)).1,
+        sum_by-append (λ (row : Row). cond row.highlight 1 0) (upto p xs) (upto p ys),
+        ap (count_by (λ (row : Row). row.highlight)) (filter-append (λ (row : Row). nat_le row.position p) xs ys),
+      )
 
 -- the counts of one row more
 pub counts-push : (rows : List Row) (row : Row) (new old : Counts) → old ≡ counts_in rows
@@ -192,8 +203,12 @@ counts-push rows row new old is notify highlight =
     let long : new.notify ≡ length (rows ++ row ∷ [])
     = omega (arith, ap (λ (n : Counts). n.notify) is, length-append rows (row ∷ [])) in
     let marked : new.highlight ≡ count_by (λ (r : Row). r.highlight) (rows ++ row ∷ [])
-    = omega (arith, ap (λ (n : Counts). n.highlight) is, sum_by-append (λ (r : Row). cond r.highlight 1 0) rows (row ∷ []),
-    sum_by-cons (λ (r : Row). cond r.highlight 1 0) row []) in
+    = omega (
+      arith,
+      ap (λ (n : Counts). n.highlight) is,
+      sum_by-append (λ (r : Row). cond r.highlight 1 0) rows (row ∷ []),
+      sum_by-cons (λ (r : Row). cond r.highlight 1 0) row [],
+    ) in
     λ i. record { notify = long i; highlight = marked i }
 
 -- packing the first hot rows leaves the rows as they are

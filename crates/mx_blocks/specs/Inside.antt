@@ -1,5 +1,5 @@
 -- The fields of a block, and what holds of them.
-use Rattle.std.specs.Prelude.{◌≡◌, ℕ, ◌+◌, ◌<◌, ◌≤◌, ◌^◌, length}
+use Rattle.std.specs.Prelude.{◌≡◌, ◌+◌, ◌<◌, ◌≤◌, ◌^◌, length}
 use Rattle.mx_rows.specs.Rows.{counts_in, start_of}
 use Rattle.mx_blocks.specs.declared.block.Block.TheInside.{Inside}
 use Rattle.mx_blocks.specs.Block.{block_rows, Kept, packed_positions}

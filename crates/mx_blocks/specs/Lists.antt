@@ -1,10 +1,7 @@
 -- What `Blocks` keeps, by thread.
-use Rattle.std.specs.Prelude.{ℕ, List, []}
-use Rattle.std.specs.Map.{lookup}
-use Rattle.std.specs.Option.{option_map_or}
+use Rattle.std.specs.Prelude.{ℕ, List}
 use Rattle.mx_rows.specs.declared.row.Row.{Row}
 use Rattle.mx_rows.specs.declared.thread_key.ThreadKey.{ThreadKey}
-use Rattle.mx_rows.specs.Threads.{same_thread}
 use Rattle.mx_blocks.specs.declared.blocks.Blocks.{Blocks}
 use Rattle.mx_blocks.specs.Block.{Kept}
 use Rattle.mx_blocks.specs.Entries.{blocks_in, hot_in, rows_in}

@@ -55,7 +55,7 @@ impl Block {
         ensures rows { IfOk result (λ block. block_rows block ≡ rows.now) }
         ensures whole { IfOk result (λ block. block.gone ≡ 0) }
     {
-        let last = rows[BLOCK_ROWS - 1].position;
+        let last = position_of(&rows[BLOCK_ROWS - 1]);
         let packed = packed_differences(alloc, rows)?;
         Ok(Block {
             first: rows[0].position,
@@ -167,4 +167,10 @@ impl Block {
         self.start = stop.next;
         dropped
     }
+}
+
+fn position_of(row: &Row) -> u64
+    ensures { result ≡ row.now.position }
+{
+    row.position
 }

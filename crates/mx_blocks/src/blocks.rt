@@ -171,12 +171,7 @@ impl Rows for Blocks {
         ripe_thread(&self.threads)
     }
 
-    fn rotate(
-        &mut self,
-        alloc: Global,
-        thread: &ThreadKey,
-        last: u64,
-    ) -> Result<u32, OutOfMemory> {
+    fn rotate(&mut self, alloc: Global, thread: &ThreadKey, last: u64) -> Result<u32, OutOfMemory> {
         match self.threads.get_index_of(thread) {
             Some(index) => rotate_at(&mut self.threads, alloc, index, last),
             None => Ok(0),

@@ -1,4 +1,4 @@
-use Rattle.std.proofs.Common.{sym, ap, ◌∙◌, arith}
+use Rattle.std.proofs.Common.{sym, ap, arith}
 use Rattle.mx_rows.specs.Rows.{counts_in}
 use Rattle.mx_rows.proofs.CutLemmas.{above-all, all_above_start, upto-none}
 use Rattle.mx_blocks.specs.Block.{block_rows}

@@ -1,6 +1,6 @@
-use Rattle.std.proofs.Common.{◌≡◌, ◌∷◌, true, false, sym, subst, ap, ◌∙◌}
+use Rattle.std.proofs.Common.{◌≡◌, true, false, sym, subst, ap, ◌∙◌}
 use Rattle.mx_rows.specs.Rows.{above, counts_in, is_rising, upto}
-use Rattle.mx_blocks.specs.Block.{block_rows, Kept, packed_rows}
+use Rattle.mx_blocks.specs.Block.{block_rows, packed_rows}
 use Rattle.mx_blocks.specs.Kept.{are_alive, first_ends_upto}
 use Rattle.mx_blocks.proofs.ThreadLemmas.{first-alive, first-rows, first-upto, rising_parts}
 use Rattle.mx_blocks.proofs.block_list.cut_first.Goals as goal

@@ -1,6 +1,6 @@
-use Rattle.std.proofs.Common.{◌≡◌, ◌∷◌, ◌≤◌, true, sym, subst, ◌∙◌, arith}
+use Rattle.std.proofs.Common.{◌≡◌, true, sym, subst, ◌∙◌, arith}
 use Rattle.std.proofs.lemmas.Bool.{leb-true}
-use Rattle.mx_blocks.specs.Kept.{first_ends_upto, last_of}
+use Rattle.mx_blocks.specs.Kept.{first_ends_upto}
 use Rattle.mx_blocks.proofs.ThreadLemmas.{DropsOn, DropsOn-fits, DropsOn-more}
 use Rattle.mx_blocks.proofs.block_list.drop_whole.Goals as goal
 

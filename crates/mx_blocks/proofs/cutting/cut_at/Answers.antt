@@ -1,4 +1,4 @@
-use Rattle.std.proofs.Common.{ℕ, ◌<◌, ◌≤◌, nat_le, cond, map, slice_get, ◌≡◌, true, ◌+◌, Some, length, option_map, count_by, sum_by, sym, subst, ◌∙◌, ap, arith}
+use Rattle.std.proofs.Common.{ℕ, nat_le, cond, map, slice_get, ◌≡◌, true, ◌+◌, Some, length, count_by, sum_by, sym, subst, ◌∙◌, ap, arith}
 use Rattle.std.proofs.lemmas.Bool.{cond-false, lt-leb}
 use Rattle.std.specs.List.Sorted.{IsPartitionedBy}
 use Rattle.indexmap.specs.IndexMap.{set_value_at}
@@ -8,7 +8,7 @@ use Rattle.mx_rows.specs.declared.row.Row.{Row}
 use Rattle.mx_rows.specs.declared.thread_key.ThreadKey.{ThreadKey}
 use Rattle.mx_blocks.specs.declared.thread_rows.ThreadRows.{ThreadRows}
 use Rattle.mx_blocks.specs.Entries.{Entries, Entry, InOrder, is_spent, IsPlace, start_at, thread_rows}
-use Rattle.mx_rows.specs.Rows.{above, start_of, upto}
+use Rattle.mx_rows.specs.Rows.{start_of, upto}
 use Rattle.mx_rows.proofs.EntryLemmas.{some_at}
 use Rattle.mx_blocks.proofs.EntryLemmas.{InOrder-settled, settled, slice_get-set_value_at, sum_by-settled, value_at}
 use Rattle.mx_rows.proofs.RowLemmas.{upto-above}

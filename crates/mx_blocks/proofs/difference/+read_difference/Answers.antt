@@ -23,10 +23,14 @@ read_difference-higher-requires t c =
     let more = more_follows (get_or bytes c.args.at 0) _ packed c.if-byte-lt128.false in
     let long = length-drop (c.args.at + 1) bytes in (
       omega arith,
-      (IsPacked-tail (get_or bytes c.args.at 0) _ packed,
-      (omega arith,
-      IsFirstBelow-higher (get_or bytes c.args.at 0) (2 ^ 64) _ c.if-byte-lt128.false
-          (subst (λ l. IsFirstBelow (2 ^ 64) (differences l)) here c.requires.small))),
+      (
+        IsPacked-tail (get_or bytes c.args.at 0) _ packed,
+        (
+          omega arith,
+          IsFirstBelow-higher (get_or bytes c.args.at 0) (2 ^ 64) _ c.if-byte-lt128.false
+              (subst (λ l. IsFirstBelow (2 ^ 64) (differences l)) here c.requires.small),
+        ),
+      ),
     )
 
 -- the number fits, as the definition bounds it

@@ -1,4 +1,4 @@
-use Rattle.std.proofs.Common.{◌≡◌, ◌%◌, ◌+◌, [], ◌∷◌, ◌++◌, append_assoc, sym, subst, ap, ◌∙◌, arith}
+use Rattle.std.proofs.Common.{◌%◌, ◌+◌, [], ◌∷◌, ◌++◌, append_assoc, sym, subst, ap, ◌∙◌, arith}
 use Rattle.mx_blocks.specs.Differences.{differences, IsPacked}
 use Rattle.mx_blocks.proofs.DifferenceLemmas.{difference_last, difference_more, differences-append, IsPacked-append}
 use Rattle.mx_blocks.proofs.difference.push_difference.Goals as goal

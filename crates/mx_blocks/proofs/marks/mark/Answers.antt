@@ -1,4 +1,4 @@
-use Rattle.std.proofs.Common.{length, arith}
+use Rattle.std.proofs.Common.{arith}
 use Rattle.mx_blocks.proofs.MarkLemmas.{mark_here, mark_other}
 use Rattle.mx_blocks.proofs.marks.mark.Goals as goal
 

@@ -1,4 +1,4 @@
-use Rattle.std.proofs.Common.{◌≡◌, false, length, take, map, subst, ap, ◌∙◌, arith}
+use Rattle.std.proofs.Common.{false, arith}
 use Rattle.mx_rows.specs.declared.row.Row.{Row}
 use Rattle.mx_blocks.proofs.PackLemmas.{PacksOn-first, PacksOn-more, rising_before}
 use Rattle.mx_blocks.proofs.packing.packed_differences.Goals as goal

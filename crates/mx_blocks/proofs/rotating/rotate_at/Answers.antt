@@ -1,4 +1,4 @@
-use Rattle.std.proofs.Common.{◌≡◌, nat_le, cond, length, drop, IfOk, [], Some, true, false, ◌||◌, is_ok, sym, subst, ◌∙◌, ap}
+use Rattle.std.proofs.Common.{◌≡◌, nat_le, cond, length, drop, IfOk, [], Some, true, false, ◌||◌, sym, subst, ◌∙◌, ap}
 use Rattle.std.specs.List.{IsDistinct}
 use Rattle.std.specs.Option.{option_map_or}
 use Rattle.std.specs.Result.{result_unwrap_or}
@@ -6,10 +6,10 @@ use Rattle.indexmap.specs.IndexMap.{set_value_at}
 use Rattle.indexmap.proofs.CallerLemmas.{keys-with_value_at, updates-with_value_at}
 use Rattle.mx_rows.specs.declared.thread_key.ThreadKey.{ThreadKey}
 use Rattle.mx_blocks.specs.declared.thread_rows.ThreadRows.{ThreadRows}
-use Rattle.mx_blocks.specs.Entries.{reserved_in, start_at, thread_rows}
+use Rattle.mx_blocks.specs.Entries.{start_at, thread_rows}
 use Rattle.mx_rows.specs.Rows.{start_of, upto}
 use Rattle.mx_rows.specs.Threads.{same_thread, same_thread-equiv}
-use Rattle.mx_rows.proofs.EntryLemmas.{or_where, some_same}
+use Rattle.mx_rows.proofs.EntryLemmas.{some_same}
 use Rattle.mx_blocks.proofs.EntryLemmas.{InOrder-same_starts, found_at, map-set_value_at, read_after, read_same}
 use Rattle.mx_rows.specs.Rows.{has_rows}
 use Rattle.mx_blocks.specs.Entries.{Entry}

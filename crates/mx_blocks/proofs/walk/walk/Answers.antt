@@ -1,8 +1,8 @@
-use Rattle.std.proofs.Common.{◌≡◌, ◌+◌, ◌<◌, ◌^◌, true, [], ◌∷◌, ◌++◌, drop, length, append-nil, append_assoc, length-append, refl, sym, subst, ap, ◌∙◌, arith}
+use Rattle.std.proofs.Common.{◌≡◌, [], ◌∷◌, ◌++◌, drop, append-nil, append_assoc, length-append, refl, sym, ap, ◌∙◌, arith}
 use Rattle.std.proofs.lemmas.Bool.{le-leb}
 use Rattle.std.proofs.Math.Seq.{drop-length}
 use Rattle.mx_rows.proofs.RowLemmas.{list_all-push}
-use Rattle.mx_blocks.specs.Differences.{differences, IsFirstBelow, positions, total}
+use Rattle.mx_blocks.specs.Differences.{differences, positions, total}
 use Rattle.mx_blocks.proofs.BlockLemmas.{first_positions, IsFirstBelow-total, positions_above}
 use Rattle.mx_blocks.proofs.walk.walk.Goals as goal
 

@@ -1,6 +1,4 @@
-use Rattle.std.proofs.Common.{◌≡◌, ◌+◌, ◌-◌, ◌<◌, ◌≤◌, ◌^◌, true, nat_le, List, ◌++◌, drop, length}
-use Rattle.std.specs.List.{list_all}
-use Rattle.mx_blocks.specs.Differences.{differences, IsPacked, positions, total}
+use Rattle.std.proofs.Common.{◌-◌, length}
 use Rattle.mx_blocks.proofs.BlockLemmas.{WalksOn}
 use Rattle.mx_blocks.proofs.walk.walk.Given as goal
 

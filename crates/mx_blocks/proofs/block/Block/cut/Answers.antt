@@ -1,13 +1,13 @@
-use Rattle.std.proofs.Common.{◌≡◌, ◌-◌, ◌≤◌, length, count_by, sym, subst, ap, ◌∙◌, arith, length-append}
+use Rattle.std.proofs.Common.{◌≡◌, ◌-◌, length, count_by, sym, subst, ap, ◌∙◌, arith, length-append}
 use Rattle.mx_rows.specs.declared.counts.Counts.{Counts}
 use Rattle.mx_rows.specs.declared.row.Row.{Row}
 use Rattle.mx_rows.specs.Rows.{above, counts_in, upto}
 use Rattle.mx_blocks.specs.Block.{block_rows, Kept, packed_positions}
 use Rattle.mx_blocks.specs.Differences.{differences, positions}
-use Rattle.mx_blocks.specs.Inside.{IsBlock, kept_of}
+use Rattle.mx_blocks.specs.Inside.{kept_of}
 use Rattle.mx_blocks.specs.Walk.{IsSplit}
 use Rattle.mx_blocks.specs.declared.block.Block.TheInside.{Inside}
-use Rattle.mx_blocks.proofs.BlockLemmas.{counts-split, cut_counts, cut_none-dropped, cut_none-rows, cut_rest, cut_rows, cut_start}
+use Rattle.mx_blocks.proofs.BlockLemmas.{counts-split, cut_counts, cut_none-dropped, cut_none-rows, cut_rows, cut_start}
 use Rattle.mx_blocks.proofs.block.Block.cut.Goals as goal
 
 -- the walk over the bytes of a block is one over its positions
@@ -78,12 +78,23 @@ invariant_of-self c =
           omega (arith, length-append split.done split.rest, split.count);
       sums = (λ i. record {
         notify = (let notify : c.minus-self-inside.result.notify ≡ length (above x (block_rows (kept_of b)))
-        = omega (arith, all.0, c.minus-self-inside.ensures.notify, ap (λ (n : Counts). n.notify) dropped,
-        ap (λ (n : Counts). n.notify) c.self.invariant.sums) in notify) i;
+            = omega (
+              arith,
+              all.0,
+              c.minus-self-inside.ensures.notify,
+              ap (λ (n : Counts). n.notify) dropped,
+              ap (λ (n : Counts). n.notify) c.self.invariant.sums,
+            ) in notify) i;
         highlight = (let highlight : c.minus-self-inside.result.highlight
-        ≡ count_by (λ (row : Row). row.highlight) (above x (block_rows (kept_of b)))
-        = omega (arith, all.1, c.minus-self-inside.ensures.highlight, marked, ap (λ (n : Counts). n.highlight) dropped,
-        ap (λ (n : Counts). n.highlight) c.self.invariant.sums) in highlight) i;
+            ≡ count_by (λ (row : Row). row.highlight) (above x (block_rows (kept_of b)))
+            = omega (
+              arith,
+              all.1,
+              c.minus-self-inside.ensures.highlight,
+              marked,
+              ap (λ (n : Counts). n.highlight) dropped,
+              ap (λ (n : Counts). n.highlight) c.self.invariant.sums,
+            ) in highlight) i;
       }) ∙ ap counts_in left;
       start = cut_start b.highlights x passed c.walk-stop.result.next b.gone ps split;
     }

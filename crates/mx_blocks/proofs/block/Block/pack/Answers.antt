@@ -1,4 +1,4 @@
-use Rattle.std.proofs.Common.{◌≡◌, ◌+◌, ◌-◌, false, length, get_or, sym, ap, ◌∙◌, arith}
+use Rattle.std.proofs.Common.{◌-◌, false, length, get_or, sym, ap, ◌∙◌, arith}
 use Rattle.std.proofs.lemmas.List.{length-map}
 use Rattle.mx_rows.specs.declared.row.Row.{Row}
 use Rattle.mx_rows.specs.Rows.{counts_in, start_of}
@@ -19,7 +19,8 @@ invariant_of-result c =
     record {
       packed = c.in_ok-packed.ensures.packed;
       count = ap length reads ∙ length-map rows (λ (row : Row). row.position) ∙ c.requires.count;
-      last = c.in_ok-packed.ensures.last none ∙ ap (λ n. (get_or rows (n - 1) none).position) c.requires.count;
+      last = c.in_ok-packed.ensures.last none ∙ ap (λ n. (get_or rows (n - 1) none).position) c.requires.count
+          ∙ sym c.position_of-last.ensures;
       small = omega arith;
       gone = omega arith;
       sums = c.counts_of.ensures ∙ ap counts_in (sym is);

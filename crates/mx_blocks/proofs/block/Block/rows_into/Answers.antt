@@ -1,4 +1,4 @@
-use Rattle.std.proofs.Common.{◌+◌, ◌<◌, ◌^◌, length, ap, ◌∙◌, arith}
+use Rattle.std.proofs.Common.{length, ap, arith}
 use Rattle.mx_blocks.specs.Differences.{differences, total}
 use Rattle.mx_blocks.proofs.BlockLemmas.{length-positions}
 use Rattle.mx_blocks.proofs.block.Block.rows_into.Goals as goal

@@ -1,6 +1,5 @@
-use Rattle.std.proofs.Common.{◌≡◌, ◌+◌, [], ◌∷◌, ◌++◌, List, get_or, take, Result, Ok, Err, OnErr, append-nil, append_assoc, sym, ap, ◌∙◌, arith}
+use Rattle.std.proofs.Common.{◌≡◌, ◌+◌, [], ◌∷◌, ◌++◌, take, Result, Ok, Err, OnErr, append-nil, append_assoc, sym, ap, ◌∙◌, arith}
 use Rattle.std.proofs.lemmas.List.{take_more}
-use Rattle.std.proofs.lemmas.Result.{IfErr-at_err}
 use Rattle.mx_blocks.specs.Block.{block_rows, packed_rows}
 use Rattle.mx_blocks.proofs.ThreadLemmas.{packed_rows-append}
 use Rattle.mx_blocks.proofs.thread_rows.ThreadRows.append_to.Goals as goal

@@ -1,4 +1,4 @@
-use Rattle.std.proofs.Common.{◌≡◌, ◌+◌, ◌≤◌, ◌++◌, length, count_by, append_assoc, nat_lt, length-append, sym, ap, ◌∙◌, arith, rules}
+use Rattle.std.proofs.Common.{◌≡◌, ◌+◌, ◌++◌, length, count_by, nat_lt, length-append, sym, ap, ◌∙◌, arith, rules}
 use Rattle.std.proofs.lemmas.Fn.{filter_same}
 use Rattle.std.proofs.lemmas.List.Elements.{filter-append}
 use Rattle.std.proofs.lemmas.List.Sums.{count_by-le-length}
@@ -29,10 +29,15 @@ both : (p : _) (xs ys hot : _) (packed upto_hot : Counts) → packed ≡ counts_
     × (packed.highlight + upto_hot.highlight + count_by (λ (row : Row). row.highlight) (above p (xs ++ ys))
     ≡ count_by (λ (row : Row). row.highlight) (xs ++ ys))
 both p xs ys hot packed upto_hot is_packed is_hot same =
-    let hot_is = is_hot ∙ ap (λ l. counts_in (upto p l)) same in
-    (omega (arith, both-notify p xs ys, ap (λ (n : Counts). n.notify) is_packed, ap (λ (n : Counts). n.notify) hot_is),
-    omega (arith, both-highlight p xs ys, ap (λ (n : Counts). n.highlight) is_packed,
-    ap (λ (n : Counts). n.highlight) hot_is))
+    let hot_is = is_hot ∙ ap (λ l. counts_in (upto p l)) same in (
+      omega (arith, both-notify p xs ys, ap (λ (n : Counts). n.notify) is_packed, ap (λ (n : Counts). n.notify) hot_is),
+      omega (
+        arith,
+        both-highlight p xs ys,
+        ap (λ (n : Counts). n.highlight) is_packed,
+        ap (λ (n : Counts). n.highlight) hot_is,
+      ),
+    )
 
 pub plus-dropped-requires-clause-notify : goal.plus-dropped-requires-clause-notify
 plus-dropped-requires-clause-notify c =
@@ -50,8 +55,11 @@ plus-dropped-requires-clause-highlight c =
     c.counts_upto.result c.cut_blocks-packed.ensures.dropped c.counts_upto.ensures c.deref.ensures.value in
     let long = ap (λ (n : Counts). n.notify) old.counted in
     let fits = old.fits in
-    omega (arith, all.1,
-    count_by-le-length (λ (row : Row). row.highlight) (rows_of_parts old.blocks.items old.hot.items))
+    omega (
+      arith,
+      all.1,
+      count_by-le-length (λ (row : Row). row.highlight) (rows_of_parts old.blocks.items old.hot.items),
+    )
 
 pub minus-self-requires-clause-notify : goal.minus-self-requires-clause-notify
 minus-self-requires-clause-notify c =
@@ -84,11 +92,21 @@ invariant_of-self c =
     let all = both p (packed_rows old.blocks.items) old.hot.items _ c.cut_blocks-packed.result
     c.counts_upto.result c.cut_blocks-packed.ensures.dropped c.counts_upto.ensures c.deref.ensures.value in
     let notify : c.minus-self.result.notify ≡ length (above p rows)
-    = omega (arith, all.0, c.plus-dropped.ensures.notify, c.minus-self.ensures.notify,
-    ap (λ (n : Counts). n.notify) old.counted) in
+    = omega (
+      arith,
+      all.0,
+      c.plus-dropped.ensures.notify,
+      c.minus-self.ensures.notify,
+      ap (λ (n : Counts). n.notify) old.counted,
+    ) in
     let highlight : c.minus-self.result.highlight ≡ count_by (λ (row : Row). row.highlight) (above p rows)
-    = omega (arith, all.1, c.plus-dropped.ensures.highlight, c.minus-self.ensures.highlight,
-    ap (λ (n : Counts). n.highlight) old.counted) in
+    = omega (
+      arith,
+      all.1,
+      c.plus-dropped.ensures.highlight,
+      c.minus-self.ensures.highlight,
+      ap (λ (n : Counts). n.highlight) old.counted,
+    ) in
     record {
       rising = ap is_rising left ∙ is_rising-above p rows old.rising;
       in_range = ap are_in_range left ∙ list_all-filter _ _ rows old.in_range;
