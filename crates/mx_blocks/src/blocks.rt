@@ -69,18 +69,16 @@ impl Blocks {
 }
 
 impl Rows for Blocks {
-    ghost use Rattle.std.specs.Map.{keys_of};
-    ghost use Rattle.mx_blocks.specs.Entries.{reserved_in};
-    ghost use Rattle.mx_blocks.specs.Lists.{hot_of, list_of, opened_in};
+    ghost use Rattle.mx_blocks.specs.Lists.{has_capacity_of, hot_of, list_of, opened_in, threads_of};
     ghost use Rattle.mx_blocks.specs.EntriesLaws.{hot_last-rows_in, is_rising-rows_in, kept-entries};
 
     ghost list = { list_of };
 
     ghost hot = { hot_of };
 
-    ghost has_capacity = { λ rows. reserved_in rows.threads.entries };
+    ghost has_capacity = { has_capacity_of };
 
-    ghost threads = { λ rows. keys_of rows.threads.entries };
+    ghost threads = { threads_of };
 
     fn empty(alloc: Global) -> Result<Blocks, OutOfMemory> {
         Ok(Blocks {
@@ -116,8 +114,8 @@ impl Rows for Blocks {
             then above position (list_of self.old t) else list_of self.old t) }
         ensures dropped { result ≡ counts_in (upto position (list_of self.old thread.now)) }
         ensures cool { (t : ThreadKey) → length (hot_of self.new t) ≤ length (hot_of self.old t) }
-        ensures capacity { (t : ThreadKey) → reserved_in self.new.threads.entries t
-            ≡ reserved_in self.old.threads.entries t }
+        ensures capacity { (t : ThreadKey)
+            → has_capacity_of self.new t ≡ has_capacity_of self.old t }
         ensures opened { opened_in self.new ≤ opened_in self.old + 1 }
     {
         match self.threads.get_index_of(thread) {
@@ -129,12 +127,12 @@ impl Rows for Blocks {
     fn cut_all(&mut self, position: u64) -> Counts
         ensures lists { (t : ThreadKey) → list_of self.new t ≡ above position (list_of self.old t) }
         ensures dropped { result ≡ saturated (counts_in (upto position
-            (flat_map (list_of self.old) (keys_of self.old.threads.entries)))) }
+            (flat_map (list_of self.old) (threads_of self.old)))) }
         ensures cool { (t : ThreadKey) → length (hot_of self.new t) ≤ length (hot_of self.old t) }
-        ensures capacity { (t : ThreadKey) → reserved_in self.new.threads.entries t
-            ≡ reserved_in self.old.threads.entries t }
+        ensures capacity { (t : ThreadKey)
+            → has_capacity_of self.new t ≡ has_capacity_of self.old t }
         ensures opened { opened_in self.new ≤ opened_in self.old
-            + length (with_rows (list_of self.old) (keys_of self.old.threads.entries)) }
+            + length (with_rows (list_of self.old) (threads_of self.old)) }
     {
         cut_every(&mut self.threads, position, &mut self.opened)
     }
