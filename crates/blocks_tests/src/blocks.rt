@@ -6,23 +6,23 @@ use mx_rows::{Row, Rows, ThreadKey};
 use std::alloc::Global;
 use std::process::Abort;
 
-/// The rows of the main thread, in a list of their own.
-fn rows_of(rt: &impl Abort, alloc: Global, rows: &Blocks) -> Vec<Row>
-    ensures { result.items ≡ ⟦<Blocks as Rows>⟧.list rows.now Main }
+/// The rows of a thread, in a list of their own.
+fn rows_of(rt: &impl Abort, alloc: Global, rows: &Blocks, thread: &ThreadKey) -> Vec<Row>
+    ensures { result.items ≡ ⟦<Blocks as Rows>⟧.list rows.now thread.now }
 {
     let mut out = Vec::new(alloc);
-    rows.rows_into(&ThreadKey::Main, &mut out).expect(rt, "memory");
+    rows.rows_into(thread, &mut out).expect(rt, "memory");
     out
 }
 
-/// Makes capacity for a row of the main thread, and appends it.
-fn push(rt: &impl Abort, alloc: Global, rows: &mut Blocks, row: Row) {
-    rows.reserve(alloc, &ThreadKey::Main).expect(rt, "memory");
-    if rows_of(rt, alloc, rows)
+/// Makes capacity for a row, and appends it.
+fn push(rt: &impl Abort, alloc: Global, rows: &mut Blocks, thread: &ThreadKey, row: Row) {
+    rows.reserve(alloc, thread).expect(rt, "memory");
+    if rows_of(rt, alloc, rows, thread)
         .iter()
         .all(|before| before.position < row.position)
     {
-        rows.push(&ThreadKey::Main, row.position, row.highlight);
+        rows.push(thread, row.position, row.highlight);
     } else {
         rt.panic("a row below another");
     }
@@ -40,7 +40,7 @@ fn filled(rt: &impl Abort, alloc: Global, count: u64, gap: u64) -> Blocks {
             position,
             highlight: k % 8 == k / 8 % 8,
         };
-        push(rt, alloc, &mut rows, row);
+        push(rt, alloc, &mut rows, &ThreadKey::Main, row);
     }
     rows
 }
@@ -211,9 +211,9 @@ fn pushed_again(rt: &impl Abort, alloc: Global) -> (u64, bool) {
         position: 301,
         highlight: false,
     };
-    push(rt, alloc, &mut rows, row);
+    push(rt, alloc, &mut rows, &ThreadKey::Main, row);
     let only = rows.thread_at(0).is_some() && rows.thread_at(1).is_none();
-    (rows_of(rt, alloc, &rows).iter().map(|row| row.position).max().unwrap_or(0), only)
+    (rows_of(rt, alloc, &rows, &ThreadKey::Main).iter().map(|row| row.position).max().unwrap_or(0), only)
 }
 
 #[test]
@@ -227,7 +227,7 @@ fn unpacked(rt: &impl Abort, alloc: Global) -> (bool, bool, usize) {
     let mut rows = filled(rt, alloc, 300, 127);
     let before = rows.ripe().is_some();
     rotated(rt, alloc, &mut rows, u64::MAX);
-    let right = rows_of(rt, alloc, &rows)
+    let right = rows_of(rt, alloc, &rows, &ThreadKey::Main)
         .iter()
         .enumerate()
         .filter(|(k, row)| row.position == (*k as u64).saturating_add(1).saturating_mul(127))
