@@ -2,6 +2,7 @@
 //! far apart they are, and the position at which they are cut afterwards; what is printed is how
 //! many bytes the first block's differences have, and how many rows are left.
 #![tactic(auto)]
+
 ghost use Rattle.std.specs.Prelude.{◌≡◌, ◌<◌, ◌≤◌, [], All, OnOk};
 ghost use Rattle.mx_rows.specs.declared.thread_key.ThreadKey.TheVariants.{Main};
 ghost use Rattle.mx_blocks.specs.Lists.{list_of};
@@ -32,7 +33,11 @@ fn main(rt: HostRuntime) -> Result<()> {
 }
 
 fn number(word: Option<&str>) -> Result<u64> {
-    Ok(word.context("a number")?.parse::<u64>().context("a number")?)
+    Ok(
+        word.context("a number")?
+            .parse::<u64>()
+            .context("a number")?,
+    )
 }
 
 /// Appends so many rows, each this far above the one before, and packs them as soon as 256 are hot.

@@ -55,7 +55,8 @@ fn packed(rt: &impl Abort, alloc: Global, count: u64, gap: u64) -> Blocks {
 }
 
 fn rotated(rt: &impl Abort, alloc: Global, rows: &mut Blocks, last: u64) -> u32 {
-    rows.rotate(alloc, &ThreadKey::Main, last).expect(rt, "memory")
+    rows.rotate(alloc, &ThreadKey::Main, last)
+        .expect(rt, "memory")
 }
 
 fn block<'a>(rt: &impl Abort, rows: &'a Blocks, k: usize) -> &'a Block {
@@ -108,7 +109,11 @@ fn shape(rt: &impl Abort, alloc: Global, gap: u64) -> (usize, u64, u64, usize) {
 #[test]
 fn differences_take_the_fewest_bytes(rt: HostRuntime) {
     for (gap, bytes) in GAPS {
-        assert_eq!(rt; shape(&rt, rt.alloc(), gap), (bytes, gap, 256 * gap, 32), "{gap} apart");
+        assert_eq!(rt;
+            shape(&rt, rt.alloc(), gap),
+            (bytes, gap, 256 * gap, 32),
+            "{gap} apart"
+        );
     }
 }
 
@@ -133,7 +138,11 @@ fn sizes(rt: &impl Abort, alloc: Global, count: u64) -> (u64, u64, usize) {
 #[test]
 fn blocks_have_256_rows(rt: HostRuntime) {
     for (count, hot, packed, blocks) in SIZES {
-        assert_eq!(rt; sizes(&rt, rt.alloc(), count), (hot, packed, blocks), "{count} rows");
+        assert_eq!(rt;
+            sizes(&rt, rt.alloc(), count),
+            (hot, packed, blocks),
+            "{count} rows"
+        );
     }
 }
 
@@ -213,7 +222,14 @@ fn pushed_again(rt: &impl Abort, alloc: Global) -> (u64, bool) {
     };
     push(rt, alloc, &mut rows, &ThreadKey::Main, row);
     let only = rows.thread_at(0).is_some() && rows.thread_at(1).is_none();
-    (rows_of(rt, alloc, &rows, &ThreadKey::Main).iter().map(|row| row.position).max().unwrap_or(0), only)
+    (
+        rows_of(rt, alloc, &rows, &ThreadKey::Main)
+            .iter()
+            .map(|row| row.position)
+            .max()
+            .unwrap_or(0),
+        only,
+    )
 }
 
 #[test]
