@@ -35,7 +35,8 @@ pub drop-positions : (n p : ℕ) (ds : List ℕ)
 drop-positions zero p ds = inr (p, ds, refl, refl)
 drop-positions (suc n) p [] = inl (drop-nil n)
 drop-positions (suc n) p (d ∷ ds) =
-    ⊎_elim (λ none. inl none) (λ some. inr (some.0, some.1, some.2, omega (arith, some.3))) (drop-positions n (p + d) ds)
+    ⊎_elim (λ none. inl none) (λ some. inr (some.0, some.1, some.2, omega (arith, some.3)))
+    (drop-positions n (p + d) ds)
 
 pub positions-push : (p d : ℕ) (ds : List ℕ) → positions p (ds ++ d ∷ []) ≡ positions p ds ++ (p + total ds + d) ∷ []
 positions-push p d [] = ap (λ n. p ∷ n ∷ []) (omega arith)
@@ -107,7 +108,8 @@ module _ (m : List ℕ) (x passed next gone : ℕ) (ps : List ℕ) (split : IsSp
       → list_all (λ (row : Row). nat_lt x row.position) (rows_from m gone (drop gone ps)) ≡ true
   left_over few =
       all-rows_from m (λ p. nat_lt x p) gone (drop gone ps)
-      (ap (list_all (λ p. nat_lt x p)) (ap (drop gone) split.parts ∙ drop-past gone split.done split.rest (omega (arith, split.count)))
+      (ap (list_all (λ p. nat_lt x p))
+      (ap (drop gone) split.parts ∙ drop-past gone split.done split.rest (omega (arith, split.count)))
       ∙ list_all-drop (λ p. nat_lt x p) (gone - length split.done) split.rest split.above)
 
   pub cut_none-rows : passed ≤ gone → rows_from m gone (drop gone ps) ≡ above x (rows_from m gone (drop gone ps))
@@ -138,10 +140,12 @@ module _ (m : List ℕ) (x passed next gone : ℕ) (ps : List ℕ) (split : IsSp
       ∙ ap (λ l. rows_from m gone (drop gone split.done) ++ rows_from m passed l) (sym cut_rest)
 
   under : list_all (λ (row : Row). nat_le row.position x) (rows_from m gone (drop gone split.done)) ≡ true
-  under = all-rows_from m (λ p. nat_le p x) gone (drop gone split.done) (list_all-drop (λ p. nat_le p x) gone split.done split.upto)
+  under = all-rows_from m (λ p. nat_le p x) gone (drop gone split.done)
+      (list_all-drop (λ p. nat_le p x) gone split.done split.upto)
 
   over : list_all (λ (row : Row). nat_lt x row.position) (rows_from m passed (drop passed ps)) ≡ true
-  over = all-rows_from m (λ p. nat_lt x p) passed (drop passed ps) (ap (list_all (λ p. nat_lt x p)) cut_rest ∙ split.above)
+  over = all-rows_from m (λ p. nat_lt x p) passed (drop passed ps)
+      (ap (list_all (λ p. nat_lt x p)) cut_rest ∙ split.above)
 
   pub cut_rows : gone ≤ passed → above x (rows_from m gone (drop gone ps)) ≡ rows_from m passed (drop passed ps)
   cut_rows some =
@@ -159,7 +163,8 @@ module _ (m : List ℕ) (x passed next gone : ℕ) (ps : List ℕ) (split : IsSp
       → counts_in (upto x (rows_from m gone (drop gone ps)))
       ≡ record { notify = passed - gone; highlight = count_by (mark_at m) (range_with_len gone (passed - gone)) }
   cut_counts some =
-      let long : length (drop gone split.done) ≡ passed - gone = omega (arith, split.count, length-drop gone split.done) in
+      let long : length (drop gone split.done) ≡ passed - gone
+      = omega (arith, split.count, length-drop gone split.done) in
       ap counts_in (cut_upto some)
       ∙ (λ i. record {
         notify = (length-rows_from m gone (drop gone split.done) ∙ long) i;

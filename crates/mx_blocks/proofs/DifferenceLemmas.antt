@@ -28,7 +28,8 @@ some_number b [] packed = (b, differences [], differences-last b [] packed)
 some_number b (c ∷ bs) packed =
     ⊎_elim (λ small. (b, differences (c ∷ bs), differences-last b (c ∷ bs) small))
     (λ large. let more = some_number c bs packed.1 in
-    (b - 128 + 128 * more.0, more.1, differences-more b (c ∷ bs) large ∙ ap (with_low (b - 128)) more.2)) (cases_lt b 128)
+    (b - 128 + 128 * more.0, more.1, differences-more b (c ∷ bs) large ∙ ap (with_low (b - 128)) more.2))
+    (cases_lt b 128)
 
 pub IsPacked-tail : (b : ℕ) (bs : List ℕ) → IsPacked (b ∷ bs) → IsPacked bs
 unfolding IsPacked

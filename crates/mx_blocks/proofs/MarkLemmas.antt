@@ -40,12 +40,16 @@ mark_other marks row k within other =
     ⊎_elim beside apart (cases_eq (k / 8) (row / 8))
   where
     apart : k / 8 ≢ row / 8
-        → nat_eq (bit_at (get_or (set marks (row / 8) (bit_or (get_or marks (row / 8) 0) (1 * 2 ^ (row % 8) % 256))) (k / 8) 0) (k % 8)) 1
+        → nat_eq (bit_at
+        (get_or (set marks (row / 8) (bit_or (get_or marks (row / 8) 0) (1 * 2 ^ (row % 8) % 256))) (k / 8) 0)
+        (k % 8)) 1
         ≡ nat_eq (bit_at (get_or marks (k / 8) 0) (k % 8)) 1
     apart differ = ap (λ b. nat_eq (bit_at b (k % 8)) 1) (get_or-set_other marks (row / 8) (k / 8) _ 0 differ)
 
     beside : k / 8 ≡ row / 8
-        → nat_eq (bit_at (get_or (set marks (row / 8) (bit_or (get_or marks (row / 8) 0) (1 * 2 ^ (row % 8) % 256))) (k / 8) 0) (k % 8)) 1
+        → nat_eq (bit_at
+        (get_or (set marks (row / 8) (bit_or (get_or marks (row / 8) 0) (1 * 2 ^ (row % 8) % 256))) (k / 8) 0)
+        (k % 8)) 1
         ≡ nat_eq (bit_at (get_or marks (k / 8) 0) (k % 8)) 1
     beside same =
         let byte = get_or marks (row / 8) 0 in
@@ -54,7 +58,8 @@ mark_other marks row k within other =
         ∙ bit_at_or byte (2 ^ (row % 8)) (k % 8)
         ∙ ap (max (bit_at byte (k % 8))) (bit_at-pow_other (row % 8) (k % 8) (omega arith))
         ∙ omega arith in
-        ap (λ i. nat_eq (bit_at (get_or (set marks (row / 8) (bit_or byte (1 * 2 ^ (row % 8) % 256))) i 0) (k % 8)) 1) same
+        ap (λ i. nat_eq
+        (bit_at (get_or (set marks (row / 8) (bit_or byte (1 * 2 ^ (row % 8) % 256))) i 0) (k % 8)) 1) same
         ∙ ap (λ b. nat_eq (bit_at b (k % 8)) 1) (get_or-set_same marks (row / 8) _ 0 within)
         ∙ ap (λ n. nat_eq n 1) bit
         ∙ ap (λ i. nat_eq (bit_at (get_or marks i 0) (k % 8)) 1) (sym same)

@@ -53,7 +53,8 @@ module _ (list : ThreadKey → List Row) where
     where
       by : (b : Bool) → cond b (e.0 ∷ keys_of (filter (λ e. has_rows (thread_rows e.1)) es))
           (keys_of (filter (λ e. has_rows (thread_rows e.1)) es))
-          ≡ keys_of (cond b (e ∷ filter (λ e. has_rows (thread_rows e.1)) es) (filter (λ e. has_rows (thread_rows e.1)) es))
+          ≡ keys_of (cond b (e ∷ filter (λ e. has_rows (thread_rows e.1)) es)
+          (filter (λ e. has_rows (thread_rows e.1)) es))
       by true = refl
       by false = refl
 
@@ -171,7 +172,8 @@ slice_get-has_rows (e ∷ es) k up =
         let past : list_all (λ later. nat_le 18446744073709551616 later) (map start_at es) ≡ true
         = ap (λ n. list_all (λ later. nat_le n later) (map start_at es)) (sym (start_of-none (thread_rows e.1) is))
         ∙ all in
-        let none : filter (λ e. has_rows (thread_rows e.1)) (e ∷ es) ≡ [] = cond-false _ _ _ is ∙ none_has_rows es past in
+        let none : filter (λ e. has_rows (thread_rows e.1)) (e ∷ es) ≡ [] = cond-false _ _ _ is
+        ∙ none_has_rows es past in
         ap (λ l. slice_get l k) none ∙ sym (none_kept (e ∷ es) k none)
 
 pub slice_get-with_rows : (es : Entries) (k : ℕ) → IsDistinct same_thread (keys_of es) → InOrder es

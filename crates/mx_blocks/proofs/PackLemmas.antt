@@ -27,10 +27,14 @@ pub rising_at : (rows : List Row) (i : ℕ) (d : Row) → is_rising rows ≡ tru
 rising_at [] i d rising within = absurd (omega arith)
 rising_at (row ∷ []) i d rising within = absurd (omega arith)
 rising_at (row ∷ next ∷ rows) zero d rising within =
-    let parts = and_parts (list_all (λ later. nat_lt row.position later.position) (next ∷ rows)) (is_rising (next ∷ rows)) rising in
-    ltb-true _ _ (and_parts (nat_lt row.position next.position) (list_all (λ later. nat_lt row.position later.position) rows) parts.0).0
+    let parts = and_parts (list_all (λ later. nat_lt row.position later.position) (next ∷ rows))
+    (is_rising (next ∷ rows)) rising in
+    ltb-true _ _
+    (and_parts (nat_lt row.position next.position)
+    (list_all (λ later. nat_lt row.position later.position) rows) parts.0).0
 rising_at (row ∷ next ∷ rows) (suc i) d rising within =
-    let parts = and_parts (list_all (λ later. nat_lt row.position later.position) (next ∷ rows)) (is_rising (next ∷ rows)) rising in
+    let parts = and_parts (list_all (λ later. nat_lt row.position later.position) (next ∷ rows))
+    (is_rising (next ∷ rows)) rising in
     rising_at (next ∷ rows) i d parts.1 (omega arith)
 
 -- rows are those at their positions, where the marks are their highlights

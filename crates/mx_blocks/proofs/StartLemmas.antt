@@ -57,7 +57,8 @@ get_or-set_value_at_other (x ∷ es) (suc i) zero w d other = refl
 get_or-set_value_at_other (x ∷ es) (suc i) (suc k) w d other =
     get_or-set_value_at_other es i k w d (λ same. other (ap suc same))
 
-get_or-set_value_at_same : (es : Entries) (i : ℕ) (e : ThreadKey × ThreadRows) (w : ThreadRows) (d : ThreadKey × ThreadRows)
+get_or-set_value_at_same : (es : Entries) (i : ℕ) (e : ThreadKey × ThreadRows) (w : ThreadRows)
+    (d : ThreadKey × ThreadRows)
     → slice_get es i ≡ Some e → get_or (set_value_at es i w) i d ≡ (e.0, w)
 get_or-set_value_at_same [] i e w d is = absurd (cc)
 get_or-set_value_at_same (x ∷ es) zero e w d is = ap (λ (y : ThreadKey × ThreadRows). (y.0, w)) (some_same is)

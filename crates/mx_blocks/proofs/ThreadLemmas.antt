@@ -20,9 +20,11 @@ use Rattle.mx_blocks.proofs.BlockLemmas.{above-none, counts-split, all-rows_from
 pub rising_parts : (xs ys : List Row) → is_rising (xs ++ ys) ≡ true → (is_rising xs ≡ true) × (is_rising ys ≡ true)
 rising_parts [] ys rising = (refl, rising)
 rising_parts (x ∷ xs) ys rising =
-    let parts = and_parts (list_all (λ later. nat_lt x.position later.position) (xs ++ ys)) (is_rising (xs ++ ys)) rising in
+    let parts = and_parts (list_all (λ later. nat_lt x.position later.position) (xs ++ ys))
+    (is_rising (xs ++ ys)) rising in
     let rest = rising_parts xs ys parts.1 in
-    let over = and_parts (list_all (λ (later : Row). nat_lt x.position later.position) xs) (list_all (λ later. nat_lt x.position later.position) ys)
+    let over = and_parts (list_all (λ (later : Row). nat_lt x.position later.position) xs)
+    (list_all (λ later. nat_lt x.position later.position) ys)
     (sym (list_all-append (λ (later : Row). nat_lt x.position later.position) xs ys) ∙ parts.0) in
     (and_from _ _ over.0 rest.0, rest.1)
 
@@ -39,12 +41,15 @@ pub later_above : (p : ℕ) (xs ys : List Row) → is_rising (xs ++ ys) ≡ true
     → list_all (λ row. nat_lt p row.position) ys ≡ true
 later_above p [] ys rising some = absurd (false≢true some)
 later_above p (x ∷ xs) ys rising some =
-    let parts = and_parts (list_all (λ later. nat_lt x.position later.position) (xs ++ ys)) (is_rising (xs ++ ys)) rising in
+    let parts = and_parts (list_all (λ later. nat_lt x.position later.position) (xs ++ ys))
+    (is_rising (xs ++ ys)) rising in
     ⊎_elim (λ over. all_above_more p x.position ys over
-    (and_parts (list_all (λ (later : Row). nat_lt x.position later.position) xs) (list_all (λ later. nat_lt x.position later.position) ys)
+    (and_parts (list_all (λ (later : Row). nat_lt x.position later.position) xs)
+    (list_all (λ later. nat_lt x.position later.position) ys)
     (sym (list_all-append (λ (later : Row). nat_lt x.position later.position) xs ys) ∙ parts.0)).1)
     (λ under. later_above p xs ys parts.1
-    (ap has_rows (sym (cond-false (nat_lt p x.position) (x ∷ above p xs) (above p xs) (le-ltb p x.position under))) ∙ some))
+    (ap has_rows (sym (cond-false (nat_lt p x.position) (x ∷ above p xs) (above p xs) (le-ltb p x.position under)))
+    ∙ some))
     (cases_lt p x.position)
 
 -- ---- blocks
@@ -52,7 +57,8 @@ later_above p (x ∷ xs) ys rising some =
 pub packed_rows-append : (xs ys : List Kept) → packed_rows (xs ++ ys) ≡ packed_rows xs ++ packed_rows ys
 packed_rows-append [] ys = refl
 packed_rows-append (x ∷ xs) ys =
-    ap (λ l. block_rows x ++ l) (packed_rows-append xs ys) ∙ sym (append_assoc (block_rows x) (packed_rows xs) (packed_rows ys))
+    ap (λ l. block_rows x ++ l) (packed_rows-append xs ys)
+    ∙ sym (append_assoc (block_rows x) (packed_rows xs) (packed_rows ys))
 
 -- a block that ends at or below a position is there whole
 pub whole_upto : (p : ℕ) (b : Kept) → last_of b ≤ p
@@ -66,10 +72,12 @@ whole_upto p b ends =
 some_above : (m : List ℕ) (p k q : ℕ) (es : List ℕ) → p < q + total es
     → has_rows (above p (rows_from m k (positions q es))) ≡ true
 some_above m p k q [] over =
-    ap has_rows (cond-true (nat_lt p q) (record { position = q; highlight = mark_at m k } ∷ []) [] (lt-ltb p q (omega arith)))
+    ap has_rows
+    (cond-true (nat_lt p q) (record { position = q; highlight = mark_at m k } ∷ []) [] (lt-ltb p q (omega arith)))
 some_above m p k q (e ∷ es) over =
     let rest = some_above m p (k + 1) (q + e) es (omega arith) in
-    cond_both (nat_lt p q) (record { position = q; highlight = mark_at m k } ∷ above p (rows_from m (k + 1) (positions (q + e) es)))
+    cond_both (nat_lt p q)
+    (record { position = q; highlight = mark_at m k } ∷ above p (rows_from m (k + 1) (positions (q + e) es)))
     (above p (rows_from m (k + 1) (positions (q + e) es))) (λ l. has_rows l ≡ true) (λ _. refl) (λ _. rest)
 
 -- of a block that ends above a position something is left there, where it had something
@@ -108,7 +116,8 @@ module _ (p : ℕ) (b : Kept) (bs : List Kept) (ends : last_of b ≤ p) where
   whole-notify = ap length whole-upto ∙ length-append (block_rows b) (upto p (packed_rows bs))
 
   pub whole-highlight : count_by (λ (row : Row). row.highlight) (upto p (packed_rows (b ∷ bs)))
-      ≡ count_by (λ (row : Row). row.highlight) (block_rows b) + count_by (λ (row : Row). row.highlight) (upto p (packed_rows bs))
+      ≡ count_by (λ (row : Row). row.highlight) (block_rows b) + count_by (λ (row : Row). row.highlight)
+      (upto p (packed_rows bs))
   whole-highlight =
       ap (count_by (λ (row : Row). row.highlight)) whole-upto
       ∙ sum_by-append (λ (row : Row). cond row.highlight 1 0) (block_rows b) (upto p (packed_rows bs))
@@ -140,7 +149,8 @@ upto_fits p rows =
 -- what one block more drops is no more than all drop
 pub DropsOn-fits : (p : ℕ) (old : List Kept) (b : Kept) (bs : List Kept) (dropped sums : Counts)
     → DropsOn p old (b ∷ bs) dropped → last_of b ≤ p → sums ≡ counts_in (block_rows b)
-    → (dropped.notify + sums.notify ≤ length (packed_rows old)) × (dropped.highlight + sums.highlight ≤ length (packed_rows old))
+    → (dropped.notify + sums.notify ≤ length (packed_rows old)) ×
+    (dropped.highlight + sums.highlight ≤ length (packed_rows old))
 DropsOn-fits p old b bs dropped sums before ends is =
     let upto_all = upto_fits p (packed_rows old) in (
       omega (arith, before.notify, whole-notify p b bs ends, ap (λ (n : Counts). n.notify) is, upto_all.0),
@@ -185,8 +195,10 @@ module _ (p : ℕ) (xs ys : List Row) where
         ap length (filter-append (λ (row : Row). nat_le row.position p) xs ys),
       )
 
-  pub both-highlight : count_by (λ (row : Row). row.highlight) (upto p xs) + count_by (λ (row : Row). row.highlight) (upto p ys)
-      + count_by (λ (row : Row). row.highlight) (above p (xs ++ ys)) ≡ count_by (λ (row : Row). row.highlight) (xs ++ ys)
+  pub both-highlight : count_by (λ (row : Row). row.highlight) (upto p xs) + count_by (λ (row : Row). row.highlight)
+      (upto p ys)
+      + count_by (λ (row : Row). row.highlight) (above p (xs ++ ys))
+      ≡ count_by (λ (row : Row). row.highlight) (xs ++ ys)
   both-highlight =
       omega (
         arith,
@@ -212,7 +224,8 @@ counts-push rows row new old is notify highlight =
     λ i. record { notify = long i; highlight = marked i }
 
 -- packing the first hot rows leaves the rows as they are
-pub packed_same : (blocks : List Kept) (hot first rest : List Row) (b : Kept) → first ++ rest ≡ hot → block_rows b ≡ first
+pub packed_same : (blocks : List Kept) (hot first rest : List Row) (b : Kept) → first ++ rest ≡ hot → block_rows b
+    ≡ first
     → rows_of_parts (blocks ++ b ∷ []) rest ≡ rows_of_parts blocks hot
 packed_same blocks hot first rest b parts is =
     ap (λ l. l ++ rest) (packed_rows-append blocks (b ∷ []))

@@ -8,7 +8,8 @@ use Rattle.mx_blocks.specs.Differences.{differences, IsPacked, positions, total}
 use Rattle.mx_blocks.specs.Walk.{rows_left}
 
 -- some rows are appended, and those from a place of the bytes on are still to come
-pub record UnpacksOn (first : ℕ) (packed marks : List ℕ) (gone : ℕ) (old out : List Row) (position row at : ℕ) : Type 0 where
+pub record UnpacksOn (first : ℕ) (packed marks : List ℕ) (gone : ℕ) (old out : List Row)
+    (position row at : ℕ) : Type 0 where
   pub done : List Row
   pub begins : out ≡ old ++ done
   pub parts : done ++ rows_left marks gone row (positions position (differences (drop at packed)))
@@ -24,7 +25,8 @@ module _ (m : List ℕ) (g : ℕ) where
   rows_left-cons k p ps = by (nat_lt k g)
     where
       by : (b : Bool)
-          → cond b (rows_left m g (k + 1) ps) (record { position = p; highlight = mark_at m k } ∷ rows_left m g (k + 1) ps)
+          → cond b (rows_left m g (k + 1) ps)
+          (record { position = p; highlight = mark_at m k } ∷ rows_left m g (k + 1) ps)
           ≡ cond b [] (record { position = p; highlight = mark_at m k } ∷ []) ++ rows_left m g (k + 1) ps
       by true = refl
       by false = refl
@@ -32,7 +34,8 @@ module _ (m : List ℕ) (g : ℕ) where
   rows_left-all : (k : ℕ) (ps : List ℕ) → g ≤ k → rows_left m g k ps ≡ rows_from m k ps
   rows_left-all k [] past = refl
   rows_left-all k (p ∷ ps) past =
-      cond-false (nat_lt k g) (rows_left m g (k + 1) ps) (record { position = p; highlight = mark_at m k } ∷ rows_left m g (k + 1) ps)
+      cond-false (nat_lt k g) (rows_left m g (k + 1) ps)
+      (record { position = p; highlight = mark_at m k } ∷ rows_left m g (k + 1) ps)
       (le-ltb k g past)
       ∙ ap (λ l. record { position = p; highlight = mark_at m k } ∷ l) (rows_left-all (k + 1) ps (omega arith))
 
@@ -41,7 +44,8 @@ module _ (m : List ℕ) (g : ℕ) where
   rows_left-from k (p ∷ ps) before =
       ⊎_elim
       (λ lt. let less : g - k ≡ suc (g - (k + 1)) = omega arith in
-      cond-true (nat_lt k g) (rows_left m g (k + 1) ps) (record { position = p; highlight = mark_at m k } ∷ rows_left m g (k + 1) ps)
+      cond-true (nat_lt k g) (rows_left m g (k + 1) ps)
+      (record { position = p; highlight = mark_at m k } ∷ rows_left m g (k + 1) ps)
       (lt-ltb k g lt)
       ∙ rows_left-from (k + 1) ps (omega arith) ∙ ap (λ n. rows_from m g (drop n (p ∷ ps))) (sym less))
       (λ ge. let same : k ≡ g = omega arith in let none : g - k ≡ 0 = omega arith in

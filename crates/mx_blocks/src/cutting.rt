@@ -1,9 +1,9 @@
-ghost use Rattle.std.specs.Prelude.{◌≡◌, true, ℕ, ◌+◌, ◌<◌, ◌≤◌, min, nat_le, if◌then◌else◌, List, [], length, insert, remove, slice_get, slice_index_or, Some, IfSome, IfNone};
+ghost use Rattle.std.specs.Prelude.{◌≡◌, true, ℕ, ◌+◌, ◌<◌, ◌≤◌, min, nat_le, if◌then◌else◌, length, slice_get, slice_index_or, Some, IfSome, IfNone};
 ghost use Rattle.indexmap.specs.IndexMap.{set_value_at};
 ghost use Rattle.mx_rows.specs.declared.thread_key.ThreadKey.{ThreadKey};
 ghost use Rattle.mx_blocks.specs.declared.thread_rows.ThreadRows.{ThreadRows};
-ghost use Rattle.mx_blocks.specs.Entries.{are_needed, AreDistinct, Entry, highlights_left_to_cut, hot_in, InOrder, is_spent, IsPlace, reserved_in, rows_in, rows_left_to_cut, start_at, thread_rows, threads_left_to_cut};
-ghost use Rattle.mx_rows.specs.Rows.{above, counts_in, largest_count, start_of, upto};
+ghost use Rattle.mx_blocks.specs.Entries.{are_needed, AreDistinct, Entry, highlights_left_to_cut, hot_in, InOrder, reserved_in, rows_in, rows_left_to_cut, start_at, thread_rows, threads_left_to_cut};
+ghost use Rattle.mx_rows.specs.Rows.{above, counts_in, largest_count, upto};
 ghost use Rattle.mx_rows.specs.Threads.{same_thread};
 
 use crate::counting::NONE;

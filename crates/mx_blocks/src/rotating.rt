@@ -27,7 +27,8 @@ pub fn rotate_at(
     ensures once { AreDistinct threads.new.entries }
     ensures rows { (t : ThreadKey) → rows_in threads.new.entries t ≡ rows_in threads.old.entries t }
     ensures answer { (e : Entry) → slice_get threads.old.entries index ≡ Some e
-        → IfOk result (λ n. n ≡ (if nat_le 256 (length (upto last e.1.hot.items)) then 256 else 0)) }
+        → IfOk result (λ n. n
+        ≡ (if nat_le 256 (length (upto last e.1.hot.items)) then 256 else 0)) }
     ensures hot { (e : Entry) (t : ThreadKey) → slice_get threads.old.entries index ≡ Some e
         → hot_in threads.new.entries t ≡ (if same_thread e.0 t
         then drop (result_unwrap_or result 0) (hot_in threads.old.entries t)

@@ -1,4 +1,4 @@
-ghost use Rattle.std.specs.Prelude.{◌≡◌, ◌+◌, ◌-◌, ◌<◌, ◌≤◌, ◌^◌, not, nat_le, nat_lt, ◌||◌, true, false, if◌then◌else◌, [], ◌∷◌, ◌++◌, is_ok, List, All, IfOk, OnOk, OnErr, length, drop, take, vec_len, vec_capacity};
+ghost use Rattle.std.specs.Prelude.{◌≡◌, ◌+◌, ◌-◌, ◌<◌, ◌≤◌, ◌^◌, not, nat_le, ◌||◌, true, false, if◌then◌else◌, [], ◌∷◌, ◌++◌, is_ok, List, All, IfOk, OnOk, OnErr, length, drop, take, vec_len, vec_capacity};
 ghost use Rattle.std.specs.Result.{result_unwrap_or};
 ghost use Rattle.mx_rows.specs.declared.row.Row.{Row};
 ghost use Rattle.mx_rows.specs.Rows.{above, are_in_range, counts_in, has_rows, is_rising, start_of, upto};
@@ -31,7 +31,8 @@ pub struct ThreadRows {
 impl ThreadRows {
     /// No rows, with capacity for one.
     pub fn reserved(alloc: Global) -> Result<ThreadRows, OutOfMemory>
-        ensures rows { IfOk result (λ thread. rows_of_parts thread.blocks.items thread.hot.items ≡ []) }
+        ensures rows { IfOk result
+            (λ thread. rows_of_parts thread.blocks.items thread.hot.items ≡ []) }
         ensures hot { IfOk result (λ thread. thread.hot.items ≡ []) }
         ensures capacity { IfOk result (λ thread. thread.reserved ≡ true) }
     {

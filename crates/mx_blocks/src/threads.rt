@@ -1,11 +1,8 @@
-ghost use Rattle.std.specs.Prelude.{◌≡◌, ℕ, ◌+◌, ◌<◌, ◌≤◌, nat_le, if◌then◌else◌, List, [], length, insert, remove, slice_get, slice_index_or, Some};
+ghost use Rattle.std.specs.Prelude.{◌≡◌, ℕ, ◌<◌, ◌≤◌, nat_le, if◌then◌else◌, length, insert, remove, slice_get, slice_index_or, Some};
 ghost use Rattle.std.specs.List.Sorted.{IsPartitionedBy};
-ghost use Rattle.indexmap.specs.IndexMap.{set_value_at};
 ghost use Rattle.mx_rows.specs.declared.thread_key.ThreadKey.{ThreadKey};
 ghost use Rattle.mx_blocks.specs.declared.thread_rows.ThreadRows.{ThreadRows};
-ghost use Rattle.mx_blocks.specs.Entries.{are_needed, AreDistinct, Entry, highlights_left_to_cut, hot_in, InOrder, is_spent, IsPlace, reserved_in, rows_in, rows_left_to_cut, start_at};
-ghost use Rattle.mx_rows.specs.Rows.{above, counts_in, start_of, upto};
-ghost use Rattle.mx_rows.specs.Threads.{same_thread};
+ghost use Rattle.mx_blocks.specs.Entries.{AreDistinct, Entry, hot_in, is_spent, IsPlace, reserved_in, rows_in, start_at};
 
 use crate::thread_rows::ThreadRows;
 use indexmap::IndexMap;

@@ -17,7 +17,8 @@ pub struct Stop {
 pub fn walk(first: u64, packed: &[u8], position: u64) -> Stop
     requires packed { IsPacked packed.now }
     requires small { first + total (differences packed.now) < 2 ^ 64 }
-    ensures { IsSplit position result.passed result.next (positions first (differences packed.now)) }
+    ensures { IsSplit position result.passed result.next
+        (positions first (differences packed.now)) }
 {
     let mut last = first;
     let mut passed = 0;

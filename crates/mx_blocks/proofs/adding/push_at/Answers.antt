@@ -52,7 +52,8 @@ returns-then-has_rows-clause-needed c =
     let here = some_at es c.args.index c.requires.within in
     let e = here.0 in
     let pushed = c.push_in_place.ensures.entries e here.1 in
-    let some : has_rows (thread_rows pushed.0) ≡ true = ap has_rows pushed.2 ∙ has_rows-push (thread_rows e.1) c.args.row in
+    let some : has_rows (thread_rows pushed.0) ≡ true = ap has_rows pushed.2
+    ∙ has_rows-push (thread_rows e.1) c.args.row in
     subst (λ l. are_needed l ≡ true) (sym pushed.1)
     (needed-written es c.args.index e pushed.0 here.1 (or_left _ _ some) c.requires.needed)
 

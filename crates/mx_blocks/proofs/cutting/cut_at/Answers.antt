@@ -26,7 +26,8 @@ settle-requires-clause-to c = let long = c.cut_in_place-dropped.ensures.long in 
 
 -- the thread that was cut starts where the call says that it does
 starts : (es written : Entries) (i : ℕ) (e : Entry) (w v : ThreadRows) (start : ℕ) → slice_get es i ≡ Some e
-    → written ≡ set_value_at es i w → slice_get (map (λ (x : Entry). x.1) written) i ≡ Some v → start ≡ start_of (thread_rows v)
+    → written ≡ set_value_at es i w → slice_get (map (λ (x : Entry). x.1) written) i ≡ Some v → start
+    ≡ start_of (thread_rows v)
     → start ≡ start_at (e.0, w)
 starts es written i e w v start is write value at =
     at ∙ ap (λ (x : ThreadRows). start_of (thread_rows x)) (value_at written i (e.0, w) v

@@ -13,7 +13,8 @@ pub returns-then-byte-lt128-clause-reads : goal.returns-then-byte-lt128-clause-r
 returns-then-byte-lt128-clause-reads t c =
     let bytes = c.args.bytes.now in
     ap differences (drop_at bytes c.args.at c.requires.some)
-    ∙ differences-last _ _ c.if-byte-lt128.true ∙ ap (λ n. n ∷ differences (drop (c.args.at + 1) bytes)) (sym c.from.ensures)
+    ∙ differences-last _ _ c.if-byte-lt128.true
+    ∙ ap (λ n. n ∷ differences (drop (c.args.at + 1) bytes)) (sym c.from.ensures)
 
 pub read_difference-higher-requires : goal.read_difference-higher-requires
 read_difference-higher-requires t c =
@@ -59,5 +60,6 @@ returns-clause-reads t c =
     ap differences (drop_at bytes c.args.at c.requires.some)
     ∙ differences-more (get_or bytes c.args.at 0) (drop (c.args.at + 1) bytes) c.if-byte-lt128.false
     ∙ ap (with_low (get_or bytes c.args.at 0 - 128)) c.read_difference-higher.ensures.reads
-    ∙ ap (λ n. (n + 128 * c.read_difference-higher.result.0) ∷ differences (drop c.read_difference-higher.result.1 bytes))
+    ∙ ap (λ n. (n + 128 * c.read_difference-higher.result.0) ∷ differences
+    (drop c.read_difference-higher.result.1 bytes))
     (sym c.from-2.ensures)

@@ -51,7 +51,8 @@ returns-clause-hot c = λ e t is.
     read_after es (set_value_at es c.args.index c.rotate.new.self) e.0 (Some e.1) (Some c.rotate.new.self)
     (λ o. option_map_or (λ kept. kept.hot.items) o []) (drop (result_unwrap_or c.rotate.result 0))
     (found_at es c.args.index e c.pair_mut-kept.ensures.unique is) updated.0
-    (c.rotate.ensures.hot ∙ ap (λ (x : ThreadKey × ThreadRows). drop (result_unwrap_or c.rotate.result 0) x.1.hot.items) here) t
+    (c.rotate.ensures.hot
+    ∙ ap (λ (x : ThreadKey × ThreadRows). drop (result_unwrap_or c.rotate.result 0) x.1.hot.items) here) t
 
 pub returns-clause-answer : goal.returns-clause-answer
 returns-clause-answer c = λ e is.

@@ -23,7 +23,8 @@ returns-else-has_rows c =
     let none : has_rows (thread_rows e.1) ≡ false = sym c.has_rows.ensures ∙ c.if-has_rows.false in
     sym (slice_get-with_rows self.threads.entries c.args.k self.once self.order
     ∙ ap (λ o. option_map (λ (x : ThreadKey × ThreadRows). x.0) (if_it_has_rows o)) (sym c.in-Some.ensures.entry)
-    ∙ ap (option_map (λ (x : ThreadKey × ThreadRows). x.0)) (cond-false (has_rows (thread_rows e.1)) (Some e) None none))
+    ∙ ap (option_map (λ (x : ThreadKey × ThreadRows). x.0))
+    (cond-false (has_rows (thread_rows e.1)) (Some e) None none))
 
 pub returns-in-None : goal.returns-in-None
 returns-in-None c =

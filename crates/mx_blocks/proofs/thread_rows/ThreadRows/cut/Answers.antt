@@ -23,7 +23,8 @@ cut_blocks-packed-requires-clause-few c =
     omega arith
 
 -- what the two parts drop, and what is left
-both : (p : _) (xs ys hot : _) (packed upto_hot : Counts) → packed ≡ counts_in (upto p xs) → upto_hot ≡ counts_in (upto p hot)
+both : (p : _) (xs ys hot : _) (packed upto_hot : Counts) → packed ≡ counts_in (upto p xs) → upto_hot
+    ≡ counts_in (upto p hot)
     → hot ≡ ys
     → (packed.notify + upto_hot.notify + length (above p (xs ++ ys)) ≡ length (xs ++ ys))
     × (packed.highlight + upto_hot.highlight + count_by (λ (row : Row). row.highlight) (above p (xs ++ ys))
@@ -114,7 +115,8 @@ invariant_of-self c =
       counted = (λ i. record { notify = notify i; highlight = highlight i }) ∙ ap counts_in (sym left);
       fits = let fits = old.fits in omega (arith, c.minus-self.ensures.notify);
       capacity = λ reserved. let spare = old.capacity reserved in omega arith;
-      countable = λ reserved. let countable = old.countable reserved in let fewer = c.minus-self.ensures.notify in omega arith;
+      countable = λ reserved. let countable = old.countable reserved in let fewer
+          = c.minus-self.ensures.notify in omega arith;
     }
 
 pub returns-clause-rows : goal.returns-clause-rows
@@ -123,7 +125,8 @@ returns-clause-rows c =
     let hot : c.retain.new.self.items ≡ above c.args.position old.hot.items
     = filter_same _ _ _ (λ x b f' k. search rules) _ _ c.retain.ensures.filtered in
     (λ i. c.cut_blocks-packed.ensures.rows i ++ hot i)
-    ∙ sym (filter-append (λ (row : Row). nat_lt c.args.position row.position) (packed_rows old.blocks.items) old.hot.items)
+    ∙ sym (filter-append (λ (row : Row). nat_lt c.args.position row.position)
+    (packed_rows old.blocks.items) old.hot.items)
 
 pub returns-clause-hot : goal.returns-clause-hot
 returns-clause-hot c = filter_same _ _ _ (λ x b f' k. search rules) _ _ c.retain.ensures.filtered

@@ -22,13 +22,15 @@ pub returns-then-rows_upto-lt-BLOCK_ROWS-clause-answer : goal.returns-then-rows_
 returns-then-rows_upto-lt-BLOCK_ROWS-clause-answer c =
     let n = counted c.args.last c.rows_upto.result _ c.args.self.now.hot.items c.rows_upto.ensures c.deref.ensures.value in
     let few = c.if-rows_upto-lt-BLOCK_ROWS.true in
-    sym (cond-false (nat_le 256 (length (upto c.args.last c.args.self.now.hot.items))) 256 0 (lt-leb _ _ (omega (arith, n.0))))
+    sym (cond-false (nat_le 256 (length (upto c.args.last c.args.self.now.hot.items))) 256 0
+    (lt-leb _ _ (omega (arith, n.0))))
 
 pub returns-clause-answer : goal.returns-clause-answer
 returns-clause-answer c =
     let n = counted c.args.last c.rows_upto.result _ c.args.self.now.hot.items c.rows_upto.ensures c.deref.ensures.value in
     let many = c.if-rows_upto-lt-BLOCK_ROWS.false in
-    sym (cond-true (nat_le 256 (length (upto c.args.last c.args.self.now.hot.items))) 256 0 (le-leb _ _ (omega (arith, n.0))))
+    sym (cond-true (nat_le 256 (length (upto c.args.last c.args.self.now.hot.items))) 256 0
+    (le-leb _ _ (omega (arith, n.0))))
 
 pub pack-requires-clause-count : goal.pack-requires-clause-count
 pack-requires-clause-count c =
@@ -56,9 +58,11 @@ invariant_of-self-2 c =
     let first = c.first_rows.ensures ∙ ap (take 256) c.deref-2.ensures.value in
     let block = c.in_ok-block.ensures.rows ∙ first in
     let rest = c.drop-drain.ensures.items ∙ c.drain.ensures.kept in
-    let blocks = c.push_back_reserved.ensures.items ∙ ap (λ l. l ++ c.in_ok-block.block ∷ []) c.in_ok-reserve.ensures.items in
+    let blocks = c.push_back_reserved.ensures.items
+    ∙ ap (λ l. l ++ c.in_ok-block.block ∷ []) c.in_ok-reserve.ensures.items in
     let same = (λ i. rows_of_parts (blocks i) (rest i))
-    ∙ packed_same old.blocks.items hot (take 256 hot) (drop 256 hot) c.in_ok-block.block (take-append-drop 256 hot) block in
+    ∙ packed_same old.blocks.items hot (take 256 hot) (drop 256 hot) c.in_ok-block.block
+    (take-append-drop 256 hot) block in
     let some : has_rows (block_rows c.in_ok-block.block) ≡ true
     = ap has_rows block ∙ has_rows-long (take 256 hot) (let long = length-take 256 hot in omega (arith, n.1)) in
     record {
@@ -78,7 +82,8 @@ returns-clause-rows c =
     let hot = old.hot.items in
     let first = c.first_rows.ensures ∙ ap (take 256) c.deref-2.ensures.value in
     let rest = c.drop-drain.ensures.items ∙ c.drain.ensures.kept in
-    let blocks = c.push_back_reserved.ensures.items ∙ ap (λ l. l ++ c.in_ok-block.block ∷ []) c.in_ok-reserve.ensures.items in
+    let blocks = c.push_back_reserved.ensures.items
+    ∙ ap (λ l. l ++ c.in_ok-block.block ∷ []) c.in_ok-reserve.ensures.items in
     (λ i. rows_of_parts (blocks i) (rest i))
     ∙ packed_same old.blocks.items hot (take 256 hot) (drop 256 hot) c.in_ok-block.block (take-append-drop 256 hot)
     (c.in_ok-block.ensures.rows ∙ first)
