@@ -1,0 +1,11 @@
+pub mod DifferenceLemmas
+pub mod MarkLemmas
+pub mod BlockLemmas
+pub mod PackLemmas
+pub mod ThreadLemmas
+pub mod EntryLemmas
+pub mod StartLemmas
+pub mod NeededLemmas
+pub mod CutLemmas
+pub mod OrderLemmas
+pub mod UnpackLemmas
