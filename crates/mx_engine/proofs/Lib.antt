@@ -1,4 +1,13 @@
+pub mod ApartLemmas
+pub mod EntriesLemmas
+pub mod RoomRowsLemmas
+pub mod UnreadLemmas
+pub mod UserRowsLemmas
+pub mod RowsShown
 pub mod Shown
+pub mod TellingLemmas
+pub mod TotalsLemmas
+pub mod UptoLemmas
 pub mod PlacesLemmas
 pub mod NoticingLemmas
 pub mod RulesLemmas

@@ -1,9 +1,9 @@
 -- Whom an event notifies, found among the joined local users before it and the one whom it makes a member.
 use Rattle.std.proofs.Common.{◌≡◌, ℕ, ◌+◌, ◌<◌, Bool, true, false, cond, not, ◌&&◌, ◌||◌, List, [], ◌∷◌, ◌++◌, length, get_or, take, codes, Option, Some, None, Ok, Err, ◌⊎◌, inl, inr, is_some, option_map, option_and_then, refl, ap, ap₂, subst, sym, ◌∙◌}
-use Rattle.std.specs.Cmp.Lexicographic.{nat_list_cmp_total, slice_cmp}
-use Rattle.std.specs.FinMap.{from_entries, get, get-from_entries, keys}
-use Rattle.std.specs.FinMap as map
-use Rattle.std.specs.List.{find, list_any}
+use Rattle.std.specs.Cmp.Lexicographic.{nat_list_eq_equiv, slice_cmp}
+use Rattle.std.specs.FinMap.{from_entries, get, keys}
+use Rattle.std.specs.List.{AllByRecursion, IsDistinct, cons_option, list_any}
+use Rattle.std.specs.Map.{keys_of}
 use Rattle.std.specs.Option.{option_map_or}
 use Rattle.std.specs.Ordering.{nat_cmp}
 use Rattle.std.specs.Str.{bytes_eq}
@@ -11,6 +11,7 @@ use Rattle.std.proofs.lemmas.Bool.{cases_Bool}
 use Rattle.std.proofs.lemmas.List.{take_more}
 use Rattle.std.proofs.lemmas.List.Elements.{filter_map-append}
 use Rattle.std.proofs.lemmas.List.Folds.{list_any-append}
+use Rattle.std.proofs.lemmas.Map.Keys.{IsDistinct-cons, IsDistinct-head, IsDistinct-push, IsDistinct-tail}
 use Rattle.mx_json.specs.declared.value.Json.{Json}
 use Rattle.mx_json.specs.Ids.{is_user_id, localpart_of, read_user_id}
 use Rattle.mx_json.specs.declared.id.IdError.TheVariants.{BadId}
@@ -22,7 +23,7 @@ use Rattle.mx_room.specs.Rooms.{is_local_member}
 use Rattle.mx_room.specs.State.{RoomState, member_by, named_by}
 use Rattle.mx_room.specs.Texts.{Texts, table}
 use Rattle.mx_room.specs.declared.member.Member.{Member}
-use Rattle.mx_room.proofs.TextsLemmas.{IsCovered, bytes_eq-flip, bytes_eq-same, get-put, same_table, ties}
+use Rattle.mx_room.proofs.TextsLemmas.{IsCovered, bytes_eq-flip, bytes_eq-same, get-put, same_table}
 use Rattle.mx_rule.specs.Judged.{invites, is_judged}
 use Rattle.mx_rule.specs.Ruleset.{PushRuleset}
 use Rattle.mx_records.specs.Judging.{notice_in, notice_of, notices_in}
@@ -228,26 +229,51 @@ module _ (users : List (List ℕ)) (told : Option (List ℕ × List ℕ)) (user 
       ∙ ap₂ (λ b c. cond (b && not c) (Some user) None) (sym read.1) (sym (sym (any-flip user users) ∙ apart))
       ∙ ap (beside users) named-told
 
--- ---- what is found of those who were notified
+-- ---- each user once
 
--- a user's entry, if any
-abbrev pub first_of : List ℕ → List (List ℕ × Bool) → Option (List ℕ × Bool)
-first_of q es = find (λ (e : List ℕ × Bool). bytes_eq e.0 q) es
-
-find-first_of : (q : List ℕ) (es : List (List ℕ × Bool))
-    → map.find (slice_cmp nat_cmp) q es ≡ option_map (λ (e : List ℕ × Bool). e.1) (first_of q es)
-find-first_of q [] = refl
-find-first_of q ((user, said) ∷ es) =
-    ap (λ b. cond b (Some said) (map.find (slice_cmp nat_cmp) q es)) (ties q user ∙ bytes_eq-flip q user)
-    ∙ ap (cond (bytes_eq user q) (Some said)) (find-first_of q es)
-    ∙ by (bytes_eq user q)
+-- who is none of these users is none of those of whom something is said
+said-apart : (f : List ℕ → Option Bool) (user : List ℕ) (users : List (List ℕ))
+    → AllByRecursion (λ other. bytes_eq user other ≡ false) users
+    → AllByRecursion (λ other. bytes_eq user other ≡ false) (keys_of (said_of f users))
+said-apart f user [] apart = apart
+said-apart f user (first ∷ users) apart = by (f first) (said-apart f user users apart.1)
   where
-    by : (b : Bool) → cond b (Some said) (option_map (λ (e : List ℕ × Bool). e.1) (first_of q es))
-        ≡ option_map (λ (e : List ℕ × Bool). e.1) (cond b (Some (user, said)) (first_of q es))
-    by true = refl
-    by false = refl
+    by : (said : Option Bool)
+        → AllByRecursion (λ other. bytes_eq user other ≡ false) (keys_of (said_of f users))
+        → AllByRecursion (λ other. bytes_eq user other ≡ false)
+        (keys_of (cons_option (option_map (λ s. (first, s)) said) (said_of f users)))
+    by None rest = rest
+    by (Some s) rest = (apart.0, rest)
 
--- whether an event is highlighted for a user is what stands in the user's entry
-pub get-first_of : (q : List ℕ) (es : List (List ℕ × Bool))
-    → option_map (λ (e : List ℕ × Bool). e.1) (first_of q es) ≡ get (from_entries {R = slice_cmp nat_cmp} es) q
-get-first_of q es = sym (find-first_of q es) ∙ sym (get-from_entries nat_list_cmp_total es q)
+said-once : (f : List ℕ → Option Bool) (users : List (List ℕ)) → IsDistinct bytes_eq users
+    → IsDistinct bytes_eq (keys_of (said_of f users))
+said-once f [] once = once
+said-once f (user ∷ users) once =
+    by (f user) (said-once f users (IsDistinct-tail bytes_eq user users once))
+    (said-apart f user users (IsDistinct-head bytes_eq user users once))
+  where
+    by : (said : Option Bool) → IsDistinct bytes_eq (keys_of (said_of f users))
+        → AllByRecursion (λ other. bytes_eq user other ≡ false) (keys_of (said_of f users))
+        → IsDistinct bytes_eq (keys_of (cons_option (option_map (λ s. (user, s)) said) (said_of f users)))
+    by None rest apart = rest
+    by (Some s) rest apart = IsDistinct-cons bytes_eq user (keys_of (said_of f users)) apart rest
+
+walked-once : (users : List (List ℕ)) (named : Option (List ℕ)) → IsDistinct bytes_eq users
+    → IsDistinct bytes_eq (walked users (beside users named))
+walked-once users None once = once
+walked-once users (Some user) once = by (is_user_id user) (list_any (bytes_eq user) users) refl
+  where
+    by : (id there : Bool) → list_any (bytes_eq user) users ≡ there
+        → IsDistinct bytes_eq (walked users (cond (id && not there) (Some user) None))
+    by true true is = once
+    by true false is = IsDistinct-push nat_list_eq_equiv users user once is
+    by false there is = once
+
+-- each user of whom something is said stands once
+pub notices-once : (f : List ℕ → Option Bool) (users : List (List ℕ)) (named told : Option (List ℕ))
+    (said : List (List ℕ × Bool)) → IsDistinct bytes_eq users → named ≡ beside users told
+    → said ≡ said_of f (walked users named) → IsDistinct bytes_eq (keys_of said)
+notices-once f users named told said once is items =
+    subst (λ (es : List (List ℕ × Bool)). IsDistinct bytes_eq (keys_of es))
+    (sym (items ∙ ap (λ o. said_of f (walked users o)) is))
+    (said-once f (walked users (beside users told)) (walked-once users told once))

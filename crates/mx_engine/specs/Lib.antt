@@ -1,12 +1,17 @@
 pub use Rattle.mx_records.specs.History
 pub use Rattle.mx_records.specs.Judging
 pub use Rattle.mx_records.specs.Rules
+pub use Rattle.mx_records.specs.Cuts
 pub use Rattle.mx_records.specs.Counting
 pub use Rattle.mx_records.specs.Refusing
 pub use Rattle.mx_records.specs.Snapshot
 pub mod Capacity
+pub mod KeptRows
 pub mod KeptRules
 pub mod Noticing
 pub mod Planning
 pub mod Preparing
+pub mod Reading
+pub mod Telling
+pub mod Totals
 pub mod View

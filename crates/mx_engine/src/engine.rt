@@ -1,32 +1,39 @@
-ghost use Rattle.std.specs.Prelude.{◌≡◌, ◌+◌, ◌<◌, ◌≤◌, [], None, Some, true, count_by, IfOk, OnOk};
+ghost use Rattle.std.specs.Prelude.{◌≡◌, ◌+◌, ◌≤◌, [], ℕ, Bool, List, None, true, slice_get, IfNone, IfOk, IfSome, OnOk};
 ghost use Rattle.std.specs.FinSet as set;
 ghost use Rattle.std.specs.Option.{option_copied};
 ghost use Rattle.mx_edit.specs.Planning.{is_made_for, IsPlanOf};
 ghost use Rattle.mx_event.specs.Event.{event_id_of, room_id_of};
 ghost use Rattle.mx_records.specs.History.{History, position_after, with_input};
-ghost use Rattle.mx_records.specs.Counting.{counts_of};
+ghost use Rattle.mx_records.specs.Counting.{counts_of, room_counts_of, rows_of, threads_of};
 ghost use Rattle.mx_records.specs.Refusing.{most_inputs, refusal_of_content};
 ghost use Rattle.mx_json.specs.Ids.{is_local};
 ghost use Rattle.mx_records.specs.Rules.{is_valid_input, own_rules, rules_among};
-ghost use Rattle.mx_records.specs.Snapshot.{is_highlighted_in, is_notified_in, snapshot_of};
+ghost use Rattle.mx_records.specs.Snapshot.{snapshot_of};
 ghost use Rattle.mx_room.specs.Change.{sets_of};
 ghost use Rattle.mx_rule.specs.Editing.{is_valid_edit};
-ghost use Rattle.mx_thread.specs.Place.{place_in};
-ghost use Rattle.mx_engine.specs.Capacity.{HasCapacity, HasCapacityFor, SufficesFor};
-ghost use Rattle.mx_engine.specs.Planning.{event_planned, with_edit, with_event, IsMadeFor, IsPlacedAt, IsPlannedFor, Suits};
+ghost use Rattle.mx_thread.specs.Place.{place_in, thread_of};
+ghost use Rattle.mx_rows.specs.declared.thread_key.ThreadKey.{ThreadKey};
+ghost use Rattle.mx_engine.specs.Capacity.{HasCapacity, HasCapacityFor, SufficesFor, SufficesForRows};
+ghost use Rattle.mx_engine.specs.KeptRows.{AreUnreadRows, list_at};
+ghost use Rattle.mx_engine.specs.Planning.{event_planned, read_planned, rows_with_event, rows_with_read, with_edit, with_event, with_read, IsMadeFor, IsPlacedAt, IsPlannedFor, IsReads, Suits};
+ghost use Rattle.mx_engine.specs.Telling.{KeepsCapacity};
 ghost use Rattle.mx_engine.specs.Preparing.{IsPrepared, RefusesInRange, SaysOfContent};
 
 use crate::judging::notified_users;
-use crate::notified::NotifiedEvent;
-use crate::plan::{Change, EventPlan};
-use crate::rules::UserRules;
+use crate::kept_rows::UnreadRows;
+use crate::plan::{Change, EventPlan, ReadPlan};
+use crate::reading::{copied, cut_read, read_upto};
+use crate::rules::{UserRules, remember_named};
+use crate::telling::{cut_mover, mover_of, push_rows, reserve_rows};
+use crate::totals::totals;
 use crate::{Plan, PrepareError};
 use mx_edit::{EditError, EditPlan};
 use mx_event::Event;
 use mx_glob::Scratch;
-use mx_json::{IdError, OutOfMemory, RoomId, UserId};
+use mx_json::{EventId, OutOfMemory, RoomId, UserId};
 use mx_records::{Counts, Input, MOST_INPUTS, Questions, Refusal};
 use mx_room::{Rooms, RoomsPlan};
+use mx_rows::{Rows, ThreadKey};
 use mx_rule::{Edit, Ruleset};
 use mx_thread::{Place, Threads};
 use std::alloc::Global;
@@ -35,30 +42,42 @@ use std::marker::Model;
 /// What push_server knows of its history, of at most 1,000,000 inputs. Contracts see the server's
 /// name, what the engine shows of its history, and for which inputs its memory suffices.
 #[derive(Drop)]
-pub struct Engine {
+pub struct Engine<R: Rows> {
     rooms: Rooms,
     rules: UserRules,
     places: Threads,
-    notified: Vec<NotifiedEvent>,
+    unread: UnreadRows<R>,
     inputs: u64,
     scratch: Scratch,
 }
 
-impl Model for Engine {
+impl<R: Rows> Model for Engine<R> {
     ghost use Rattle.mx_engine.specs.View.{View};
 
     ghost Value = { View };
 
     ghost use Rattle.mx_json.specs.contracts.value.Json as json;
+    ghost use Rattle.mx_rows.specs.contracts.row.Row as row;
+    ghost use Rattle.mx_rows.specs.contracts.thread_key.ThreadKey as thread;
     ghost use Rattle.std.specs.Coded.{codes};
     ghost use Rattle.std.specs.FinMap as map;
     ghost use Rattle.std.specs.FinSet as set;
 
-    ghost coded = { Prim.hlevel (codes, map.code, set.code, json.the_row.coded) };
+    ghost coded = { Prim.hlevel (
+      codes,
+      map.code,
+      set.code,
+      json.the_row.coded,
+      row.the_row.coded,
+      thread.the_row.coded,
+    ) };
 
-    ghost use Rattle.std.specs.Prelude.{◌≡◌, ◌-◌, ◌≤◌, ℕ, List, length, IfSome, vec_len, vec_capacity};
+    ghost use Rattle.std.specs.Prelude.{◌≡◌, ◌≤◌, ℕ, List, IfSome};
+    ghost use Rattle.mx_rows.specs.declared.thread_key.ThreadKey.{ThreadKey};
+    ghost use Rattle.mx_engine.specs.KeptRows.{AreUnreadRows, list_at};
+    ghost use Rattle.mx_engine.specs.Planning.{AreUpto};
     ghost use Rattle.mx_records.specs.Refusing.{most_inputs};
-    ghost use Rattle.mx_thread.specs.Place.{place_in};
+    ghost use Rattle.mx_thread.specs.Place.{place_in, thread_of};
 
     ghost view = { λ engine. record {
       server = engine.rooms.server;
@@ -67,31 +86,33 @@ impl Model for Engine {
         places = engine.places.places;
         rooms = engine.rooms.states;
         rules = engine.rules.edited;
-        notified = engine.notified.items;
+        unread = engine.unread.unread;
       };
       capacity = record {
         rooms = engine.rooms.capacity;
         places = engine.places.capacity;
-        notified = vec_capacity engine.notified - vec_len engine.notified;
         rules = engine.rules.capacity;
+        rows = engine.unread.capacity;
       };
     } };
 
     ghost invariant = { λ engine.
         (engine.rules.server ≡ engine.rooms.server)
         × (engine.inputs ≤ most_inputs)
-        × (length engine.notified.items ≤ engine.inputs)
+        × AreUnreadRows engine.unread.unread
+        × ((user room : List ℕ) (thread : ThreadKey)
+        → AreUpto engine.inputs (list_at engine.unread.unread user room thread))
         × ((id : List ℕ) → IfSome (place_in engine.places.places id)
         (λ place. place.position ≤ most_inputs)) };
 }
 
-impl Engine {
+impl<R: Rows> Engine<R> {
     /// An engine of the homeserver with this name, before any input.
     ///
     /// # Errors
     ///
     /// `OutOfMemory` where the allocator has none.
-    pub fn new(alloc: Global, server: &str) -> Result<Engine, OutOfMemory>
+    pub fn new(alloc: Global, server: &str) -> Result<Engine<R>, OutOfMemory>
         ensures server { IfOk result (λ engine. engine.server ≡ server.now) }
         ensures empty { IfOk result (λ engine. engine.shown ≡ snapshot_of server.now []) }
     {
@@ -99,7 +120,7 @@ impl Engine {
             rooms: Rooms::new(alloc, server)?,
             rules: UserRules::new(alloc, server)?,
             places: Threads::new(alloc),
-            notified: Vec::new(alloc),
+            unread: UnreadRows::new(alloc),
             inputs: 0,
             scratch: Scratch::new(alloc)?,
         })
@@ -134,6 +155,13 @@ impl Engine {
         match input {
             Input::Event(event) => self.prepare_event(alloc, event),
             Input::Edit { user, edit } => self.prepare_edit(alloc, user, edit),
+            Input::Receipt {
+                user,
+                room,
+                event,
+                private: _,
+                thread,
+            } => self.prepare_receipt(alloc, user, room, event, thread),
         }
     }
 
@@ -174,11 +202,11 @@ impl Engine {
     {
         remember_named(alloc, event, &mut self.rules)?;
         self.places.reserve(alloc, event.event_id())?;
-        self.notified.reserve(1)?;
         self.rooms.prepare(alloc, event)
     }
 
-    // Plans to add a new event at this position, for which there is capacity.
+    // Plans to add a new event at this position, for which there is capacity, and takes the memory
+    // for the rows of those whom it notifies.
     fn plan_event(
         &mut self,
         alloc: Global,
@@ -188,7 +216,11 @@ impl Engine {
     ) -> Result<EventPlan, OutOfMemory>
         requires capacity { set.contains self.old.capacity.rooms (room_id_of event.now) ≡ true }
         requires room { room ≡ record { id = room_id_of event.now; sets = sets_of event.now } }
-        ensures same { self.new ≡ self.old }
+        ensures server { self.new.server ≡ self.old.server }
+        ensures meaning { self.new.shown ≡ self.old.shown }
+        ensures capacity { KeepsCapacity self.old.capacity self.new.capacity }
+        ensures rows { IfOk result
+            (λ plan. SufficesForRows self.new.capacity (event_planned plan)) }
         ensures placed { IfOk result (IsPlacedAt position) }
         ensures planned { IfOk result
             (λ plan. IsPlannedFor self.old.server self.old.shown event.now (event_planned plan)) }
@@ -201,19 +233,35 @@ impl Engine {
             &self.rules,
             &mut self.scratch,
         )?;
+        let place = self.place(alloc, event, position)?;
+        reserve_rows(
+            &mut self.unread,
+            alloc,
+            users.as_slice(),
+            &place.room,
+            &place.thread,
+        )?;
         Ok(EventPlan {
             id: event.event_id().copied(alloc)?,
             room,
-            place: Place {
-                position,
-                room: event.room_id().copied(alloc)?,
-                thread: self.places.of(alloc, event)?,
-            },
-            notified: NotifiedEvent {
-                position,
-                room: event.room_id().copied(alloc)?,
-                users,
-            },
+            place,
+            users,
+            mover: mover_of(alloc, event, &self.rooms)?,
+        })
+    }
+
+    // The place of an event at this position.
+    fn place(&self, alloc: Global, event: &Event, position: u64) -> Result<Place, OutOfMemory>
+        ensures { IfOk result (λ place. place ≡ record {
+          position = position;
+          room = room_id_of event.now;
+          thread = thread_of (place_in self.now.shown.places) event.now;
+        }) }
+    {
+        Ok(Place {
+            position,
+            room: event.room_id().copied(alloc)?,
+            thread: self.places.of(alloc, event)?,
         })
     }
 
@@ -272,6 +320,44 @@ impl Engine {
         }
     }
 
+    fn prepare_receipt(
+        &self,
+        alloc: Global,
+        user: &UserId,
+        room: &RoomId,
+        event: &EventId,
+        thread: &Option<ThreadKey>,
+    ) -> Result<Plan, PrepareError>
+        ensures made { IfOk result (IsMadeFor self.now.server self.now.shown) }
+        ensures planned { IfOk result
+            (λ plan. IsReads self.now.shown user.now room.now event.now thread.now plan.change) }
+        ensures in_range { RefusesInRange result }
+        ensures exact { (h : History) (private : Bool)
+            → self.now.shown ≡ snapshot_of self.now.server h
+            → IsPrepared self.now.server h
+            (Input.Receipt user.now room.now event.now private thread.now) result }
+    {
+        if !user.is_local(self.server()) {
+            return Err(PrepareError::Refused(Refusal::NotLocal));
+        }
+        let upto = match read_upto(&self.places, room, event, thread) {
+            Ok(upto) => upto,
+            Err(refusal) => return Err(PrepareError::Refused(refusal)),
+        };
+        if self.inputs >= MOST_INPUTS {
+            return Err(PrepareError::Refused(Refusal::Full));
+        }
+        Ok(Plan {
+            position: self.inputs + 1,
+            change: Change::Reads(ReadPlan {
+                user: user.copied(alloc)?,
+                room: room.copied(alloc)?,
+                thread: copied(alloc, thread)?,
+                upto,
+            }),
+        })
+    }
+
     /// Accepts the input of a plan that was made for this state, and answers its position (from 1).
     /// Takes no memory.
     pub fn apply(&mut self, plan: Plan) -> u64
@@ -291,6 +377,7 @@ impl Engine {
         match change {
             Change::Adds(event) => self.add(position, event),
             Change::Edits { editor, plan } => self.edit(position, &editor, plan),
+            Change::Reads(plan) => self.read(position, plan),
         }
         position
     }
@@ -303,17 +390,31 @@ impl Engine {
         requires in_range { position ≤ most_inputs }
         requires placed { IsPlacedAt position plan }
         ensures server { self.new.server ≡ self.old.server }
-        ensures shown { self.new.shown ≡ with_event self.old.shown position (event_planned plan) }
+        ensures shown { self.new.shown
+            ≡ with_event self.old.shown position (event_planned plan) self.new.shown.unread }
+        ensures rows { (user room : List ℕ) (thread : ThreadKey)
+            → list_at self.new.shown.unread user room thread
+            ≡ rows_with_event position (event_planned plan) user room thread
+            (list_at self.old.shown.unread user room thread) }
+        ensures kept { AreUnreadRows self.new.shown.unread }
     {
         let EventPlan {
             id,
             room,
             place,
-            notified,
+            users,
+            mover,
         } = plan;
+        push_rows(
+            &mut self.unread,
+            users.as_slice(),
+            &place.room,
+            &place.thread,
+            position,
+        );
+        cut_mover(&mut self.unread, mover, &place.room, position);
         self.places.note(&id, place);
         self.rooms.apply(room);
-        self.notified.push_reserved(notified);
         self.inputs = position;
     }
 
@@ -332,6 +433,22 @@ impl Engine {
         self.inputs = position;
     }
 
+    // Drops the rows that a user has read, at the next position.
+    fn read(&mut self, position: u64, plan: ReadPlan)
+        requires next { position ≡ self.old.shown.inputs + 1 }
+        requires in_range { position ≤ most_inputs }
+        ensures server { self.new.server ≡ self.old.server }
+        ensures shown { self.new.shown ≡ with_read self.old.shown position self.new.shown.unread }
+        ensures rows { (user room : List ℕ) (thread : ThreadKey)
+            → list_at self.new.shown.unread user room thread
+            ≡ rows_with_read (read_planned plan) user room thread
+            (list_at self.old.shown.unread user room thread) }
+        ensures kept { AreUnreadRows self.new.shown.unread }
+    {
+        cut_read(&mut self.unread, plan);
+        self.inputs = position;
+    }
+
     /// The push rules of a user who edited them; `None` exactly for any other user, whose rules are
     /// the predefined ones. Takes no memory.
     pub fn rules(&self, user: &UserId) -> Option<&Ruleset>
@@ -341,65 +458,79 @@ impl Engine {
         self.rules.rules(user)
     }
 
-    /// How many events of the room are unread for the user. Takes no memory.
-    pub fn counts(&self, user: &UserId, room: &RoomId) -> Counts
+    /// The rows of the user in the room, which are its unread events, by thread; `None` only where
+    /// no thread has any. Takes no memory.
+    pub fn rows(&self, user: &UserId, room: &RoomId) -> Option<&R>
+        ensures lists { (h : History) → self.now.shown ≡ snapshot_of self.now.server h
+            → IfSome result (λ rows. (thread : ThreadKey)
+            → R.list rows.now thread ≡ rows_of self.now.server h user.now room.now thread) }
+        ensures none { (h : History) → self.now.shown ≡ snapshot_of self.now.server h
+            → IfNone result ((thread : ThreadKey)
+            → rows_of self.now.server h user.now room.now thread ≡ []) }
+    {
+        self.unread.rows(user, room)
+    }
+
+    /// How many events of the thread are unread for the user. Takes no memory.
+    pub fn counts(&self, user: &UserId, room: &RoomId, thread: &ThreadKey) -> Counts
         ensures exact { (h : History) → self.now.shown ≡ snapshot_of self.now.server h
-            → result ≡ counts_of self.now.server h user.now room.now }
+            → result ≡ counts_of self.now.server h user.now room.now thread.now }
         ensures notify_in_range { result.notify ≤ most_inputs }
         ensures highlight_in_range { result.highlight ≤ most_inputs }
     {
+        self.unread.counts(user, room, thread)
+    }
+
+    /// The threads of the room that have events which are unread for the user, in the order of the
+    /// first of each; `k` counts from 0, and `None` comes exactly past the last. Takes no memory.
+    pub fn thread_at(&self, user: &UserId, room: &RoomId, k: usize) -> Option<&ThreadKey>
+        ensures { (h : History) → self.now.shown ≡ snapshot_of self.now.server h
+            → option_copied result
+            ≡ slice_get (threads_of self.now.server h user.now room.now) k }
+    {
+        self.unread.thread_at(user, room, k)
+    }
+
+    /// How many events of the room are unread for the user, whatever their threads. Takes no memory.
+    pub fn room_counts(&self, user: &UserId, room: &RoomId) -> Counts
+        ensures exact { (h : History) → self.now.shown ≡ snapshot_of self.now.server h
+            → result ≡ room_counts_of self.now.server h user.now room.now }
+        ensures notify_in_range { result.notify ≤ most_inputs }
+        ensures highlight_in_range { result.highlight ≤ most_inputs }
+    {
+        let counts = match self.unread.rows(user, room) {
+            Some(rows) => totals(rows),
+            None => Counts {
+                notify: 0,
+                highlight: 0,
+            },
+        };
+        // No history has more: the bound is only for the clauses that name none.
         Counts {
-            notify: count_notified(&self.notified, user, room) as u64,
-            highlight: count_highlighted(&self.notified, user, room) as u64,
+            notify: counts.notify.min(MOST_INPUTS),
+            highlight: counts.highlight.min(MOST_INPUTS),
         }
     }
 }
 
-impl Questions for Engine {
+impl<R: Rows> Questions for Engine<R> {
     ghost server = { λ engine. engine.server };
 
     ghost snapshot = { λ engine. engine.shown };
 
-    fn counts(&self, user: &UserId, room: &RoomId) -> Counts {
-        Engine::counts(self, user, room)
+    fn counts(&self, user: &UserId, room: &RoomId, thread: &ThreadKey) -> Counts {
+        Engine::counts(self, user, room, thread)
+    }
+
+    fn thread_at(&self, user: &UserId, room: &RoomId, k: usize) -> Option<&ThreadKey> {
+        Engine::thread_at(self, user, room, k)
+    }
+
+    fn room_counts(&self, user: &UserId, room: &RoomId) -> Counts {
+        Engine::room_counts(self, user, room)
     }
 
     fn rules(&self, user: &UserId) -> Option<&Ruleset> {
         Engine::rules(self, user)
     }
-}
-
-/// Remembers the rules of the user whom an event makes a member, if that is a local user.
-fn remember_named(alloc: Global, event: &Event, rules: &mut UserRules) -> Result<(), OutOfMemory>
-    ensures server { rules.new.server ≡ rules.old.server }
-    ensures edited { rules.new.edited ≡ rules.old.edited }
-{
-    let Some((named, _)) = event.membership() else {
-        return Ok(());
-    };
-    match UserId::read(alloc, named) {
-        Ok(user) => rules.remember(alloc, &user),
-        Err(IdError::BadId) => Ok(()),
-        Err(IdError::OutOfMemory) => Err(OutOfMemory),
-    }
-}
-
-/// How many of the events are of the room and notify the user.
-fn count_notified(events: &[NotifiedEvent], user: &UserId, room: &RoomId) -> usize
-    ensures { result ≡ count_by (is_notified_in room.now user.now) events.now }
-{
-    events
-        .iter()
-        .filter(|event| event.room == *room && event.notice(user).is_some())
-        .count()
-}
-
-/// How many of the events are of the room and highlighted for the user.
-fn count_highlighted(events: &[NotifiedEvent], user: &UserId, room: &RoomId) -> usize
-    ensures { result ≡ count_by (is_highlighted_in room.now user.now) events.now }
-{
-    events
-        .iter()
-        .filter(|event| event.room == *room && event.notice(user).unwrap_or(false))
-        .count()
 }

@@ -1,6 +1,9 @@
 ghost use Rattle.std.specs.Prelude.{◌≡◌, ◌++◌, ◌∷◌, [], true, List, IfOk, OnOk};
 ghost use Rattle.std.specs.FinMap as map;
 ghost use Rattle.std.specs.FinSet as set;
+ghost use Rattle.std.specs.List.{IsDistinct};
+ghost use Rattle.std.specs.Map.{keys_of};
+ghost use Rattle.std.specs.Str.{bytes_eq};
 ghost use Rattle.mx_event.specs.Event.{room_id_of};
 ghost use Rattle.mx_records.specs.Judging.{notice_in, notices_in};
 ghost use Rattle.mx_records.specs.Rules.{rules_among};
@@ -28,9 +31,10 @@ pub(crate) fn notified_users(
     requires server { rules.now.server ≡ rooms.now.server }
     requires capacity { set.contains rooms.now.capacity plan.now.id ≡ true }
     requires plan { plan.now ≡ record { id = room_id_of event.now; sets = sets_of event.now } }
-    ensures { IfOk result (λ users. map.from_entries users.items
+    ensures users { IfOk result (λ users. map.from_entries users.items
         ≡ notices_in rules.now.server (rules_among rules.now.server rules.now.edited)
         (with_sets (sets_of event.now) (room_at rooms.now.states (room_id_of event.now))) event.now) }
+    ensures once { IfOk result (λ users. IsDistinct bytes_eq (keys_of users.items)) }
 {
     let view = rooms.view(plan);
     let members = rooms.local_members(event.room_id());
@@ -47,9 +51,11 @@ fn notified_in(
     rules: &UserRules,
     scratch: &mut Scratch,
 ) -> Result<Vec<(UserId, bool)>, OutOfMemory>
-    requires { IsListed rules.now.server event.now view.now members.now }
-    ensures { IfOk result (λ users. map.from_entries users.items
+    requires listed { IsListed rules.now.server event.now view.now members.now }
+    requires once { IsDistinct bytes_eq members.now }
+    ensures users { IfOk result (λ users. map.from_entries users.items
         ≡ notices_in rules.now.server (rules_among rules.now.server rules.now.edited) view.now event.now) }
+    ensures once { IfOk result (λ users. IsDistinct bytes_eq (keys_of users.items)) }
 {
     let mut users = notified_among(alloc, event, view, members, rules, scratch)?;
     if let Some(named) = named_beside(alloc, event, members)? {

@@ -8,9 +8,13 @@
 mod engine;
 mod error;
 mod judging;
-mod notified;
+mod kept_rows;
 mod plan;
+mod reading;
 mod rules;
+mod telling;
+mod totals;
+mod user_rows;
 
 pub use engine::Engine;
 pub use error::PrepareError;

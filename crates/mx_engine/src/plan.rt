@@ -1,7 +1,7 @@
-use crate::notified::NotifiedEvent;
 use mx_edit::EditPlan;
-use mx_json::{EventId, UserId};
+use mx_json::{EventId, RoomId, UserId};
 use mx_room::RoomsPlan;
+use mx_rows::ThreadKey;
 use mx_thread::Place;
 use std::marker::Model;
 
@@ -40,13 +40,28 @@ pub(crate) enum Change {
     Adds(EventPlan),
     /// The rules of a user are edited.
     Edits { editor: UserId, plan: EditPlan },
+    /// A user has read a room, or a thread of it.
+    Reads(ReadPlan),
 }
 
-/// An event that is to be added: its id, what it sets in its room, its place, and whom it notifies.
+/// An event that is to be added: its id, what it sets in its room, its place, whom it notifies, each
+/// with whether it is highlighted, and the user whose membership it changes, and not to an
+/// invitation.
 #[derive(Drop)]
 pub(crate) struct EventPlan {
     pub(crate) id: EventId,
     pub(crate) room: RoomsPlan,
     pub(crate) place: Place,
-    pub(crate) notified: NotifiedEvent,
+    pub(crate) users: Vec<(UserId, bool)>,
+    pub(crate) mover: Option<UserId>,
+}
+
+/// Rows that are to be dropped: those of the user in a thread of the room, or in all of its threads,
+/// at or below the position.
+#[derive(Drop)]
+pub(crate) struct ReadPlan {
+    pub(crate) user: UserId,
+    pub(crate) room: RoomId,
+    pub(crate) thread: Option<ThreadKey>,
+    pub(crate) upto: u64,
 }

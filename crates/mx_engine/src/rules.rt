@@ -14,7 +14,7 @@ use mx_defaults::predefined;
 use mx_edit::{EditError, EditPlan, prepare};
 use mx_event::Event;
 use mx_glob::Scratch;
-use mx_json::{OutOfMemory, UserId};
+use mx_json::{IdError, OutOfMemory, UserId};
 use mx_judge::judge;
 use mx_room::RoomView;
 use mx_rule::{Edit, Ruleset, Verdict};
@@ -219,4 +219,23 @@ fn enter(
     };
     kept.insert(user.copied(alloc)?, rules)?;
     Ok(())
+}
+
+/// Remembers the rules of the user whom an event makes a member, if that is a local user.
+pub(crate) fn remember_named(
+    alloc: Global,
+    event: &Event,
+    rules: &mut UserRules,
+) -> Result<(), OutOfMemory>
+    ensures server { rules.new.server ≡ rules.old.server }
+    ensures edited { rules.new.edited ≡ rules.old.edited }
+{
+    let Some((named, _)) = event.membership() else {
+        return Ok(());
+    };
+    match UserId::read(alloc, named) {
+        Ok(user) => rules.remember(alloc, &user),
+        Err(IdError::BadId) => Ok(()),
+        Err(IdError::OutOfMemory) => Err(OutOfMemory),
+    }
 }

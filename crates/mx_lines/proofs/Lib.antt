@@ -9,5 +9,6 @@ pub mod ListLemmas
 pub mod OwnRulesLemmas
 pub mod ReplyLemmas
 pub mod RestingLemmas
+pub mod RootsLemmas
 pub mod RunsLemmas
 pub mod ValueLemmas

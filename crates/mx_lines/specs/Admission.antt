@@ -5,7 +5,7 @@ use Rattle.mx_records.specs.declared.refusal.Refusal.{Refusal}
 use Rattle.mx_records.specs.declared.refusal.Refusal.TheVariants.{NotLocal}
 use Rattle.mx_json.specs.declared.value.Json.{Json}
 use Rattle.mx_records.specs.History.{History, with_input, position_after}
-use Rattle.mx_records.specs.Counting.{counts_of}
+use Rattle.mx_records.specs.Counting.{counts_of, room_counts_of, threads_of}
 use Rattle.mx_records.specs.Refusing.{refusal_of}
 use Rattle.mx_json.specs.Ids.{is_local}
 use Rattle.mx_records.specs.Rules.{rules_of}
@@ -17,7 +17,7 @@ use Rattle.mx_lines.specs.declared.command.Denial.{Denial}
 use Rattle.mx_lines.specs.declared.command.Denial.TheVariants.{TooLong, Line, Input as Refused}
 use Rattle.mx_lines.specs.Cutting.{longest_line}
 use Rattle.mx_lines.specs.Commands.{command_of}
-use Rattle.mx_lines.specs.Replies.{ok_value, denied_value, counts_value, reply_text}
+use Rattle.mx_lines.specs.Replies.{ok_value, denied_value, by_thread, counts_value, reply_text}
 
 -- What is to be done about a line: its command is followed, or it is denied.
 abbrev pub Admission : Type 0
@@ -63,7 +63,9 @@ after server h line = after_admission h (admission_of server h line)
 -- what is replied to a command that is followed
 abbrev pub reply_to : List ℕ → History → Command → Json
 reply_to server h (Input input) = ok_value (position_after h)
-reply_to server h (Counts user room threads) = counts_value threads (counts_of server h user room)
+reply_to server h (Counts user room threads) =
+    if threads then by_thread (counts_of server h user room) (threads_of server h user room)
+    else counts_value (room_counts_of server h user room)
 reply_to server h (Rules user) = rules_object (rules_of server h user)
 
 -- what is replied to a line of this admission

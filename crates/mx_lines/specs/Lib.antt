@@ -2,6 +2,7 @@ pub mod Lines
 pub mod QuestionWords
 pub mod Commands
 pub mod Replies
+pub mod Roots
 pub mod Admission
 pub mod Runs
 pub mod Laws

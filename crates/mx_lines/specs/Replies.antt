@@ -1,10 +1,16 @@
 -- What is replied: JSON objects, and their texts. Ours.
-use Rattle.std.specs.Prelude.{ℕ, pos, Bool, List, [], ◌∷◌, ◌++◌, codes, if◌then◌else◌}
+use Rattle.std.specs.Prelude.{ℕ, pos, List, [], ◌∷◌, ◌++◌, map, codes, Option, None, Some}
+use Rattle.std.specs.Cmp.Lexicographic.{slice_cmp}
+use Rattle.std.specs.FinMap.{FinMap, entries, from_entries}
+use Rattle.std.specs.List.{filter_map}
+use Rattle.std.specs.Ordering.{nat_cmp}
 use Rattle.mx_json.specs.declared.value.Json.{Json, Whole, Text, Object}
 use Rattle.mx_json.specs.Canonical.{canonical}
 use Rattle.mx_rows.specs.declared.counts.Counts.{Counts}
+use Rattle.mx_rows.specs.declared.thread_key.ThreadKey.{ThreadKey}
+use Rattle.mx_rows.specs.declared.thread_key.ThreadKey.TheVariants.{Main, Root}
 use Rattle.mx_records.specs.declared.refusal.Refusal.{Refusal}
-use Rattle.mx_records.specs.declared.refusal.Refusal.TheVariants.{NotLocal, KnownEvent, RuleReserved, BadRule, RuleUnknown, AnchorUnknown, RulesFull, Full}
+use Rattle.mx_records.specs.declared.refusal.Refusal.TheVariants.{NotLocal, KnownEvent, UnknownEvent, NotInThread, RuleReserved, BadRule, RuleUnknown, AnchorUnknown, RulesFull, Full}
 use Rattle.mx_records.specs.FieldNames.{field_of_part, name_of}
 use Rattle.mx_records.specs.Refusing.{most_inputs, NamesAPosition}
 use Rattle.mx_lines.specs.declared.command.Denial.{Denial}
@@ -47,6 +53,8 @@ abbrev pub refusal_value : Refusal → Json
 refusal_value NotLocal = error_value (codes "NotLocal") []
 refusal_value (KnownEvent position) =
     error_value (codes "KnownEvent") ((codes "position", number_of position) ∷ [])
+refusal_value UnknownEvent = error_value (codes "UnknownEvent") []
+refusal_value NotInThread = error_value (codes "NotInThread") []
 refusal_value RuleReserved = error_value (codes "RuleReserved") []
 refusal_value (BadRule part) =
     error_value (codes "BadRule") ((codes "part", Text (name_of (field_of_part part))) ∷ [])
@@ -76,15 +84,30 @@ numbers_of counts =
     (codes "highlight_count", number_of counts.highlight)
     ∷ (codes "notification_count", number_of counts.notify) ∷ []
 
--- the numbers of the main thread, and under `threads` those of each other one, of which none is yet
-abbrev pub by_thread : Counts → Json
-by_thread counts = object_of (numbers_of counts ++ (codes "threads", object_of []) ∷ [])
+-- the counts as an object
+abbrev pub counts_value : Counts → Json
+counts_value counts = object_of (numbers_of counts)
 
--- the sums over all threads
-abbrev pub in_sum : Counts → Json
-in_sum counts = object_of (numbers_of counts)
+-- the counts of a thread by its root's id; the main thread has no root
+abbrev pub under_root : (ThreadKey → Counts) → ThreadKey → Option (List ℕ × Counts)
+under_root counts Main = None
+under_root counts (Root id) = Some (id, counts (Root id))
 
--- The counts, thread by thread or in sum. While every event is in the main thread its numbers are
--- the sums.
-unfoldable pub counts_value : Bool → Counts → Json
-counts_value threads counts = if threads then by_thread counts else in_sum counts
+-- the counts of each of these threads that has a root, by the root's id
+abbrev pub by_root : (ThreadKey → Counts) → List ThreadKey → FinMap (slice_cmp nat_cmp) Counts
+by_root counts threads = from_entries (filter_map (under_root counts) threads)
+
+-- the counts under a root's id
+abbrev pub root_member : List ℕ × Counts → List ℕ × Json
+root_member entry = (entry.0, counts_value entry.1)
+
+-- the counts under each root's id, the ids rising
+abbrev pub roots_value : FinMap (slice_cmp nat_cmp) Counts → Json
+roots_value roots = object_of (map root_member (entries roots))
+
+-- The counts thread by thread: the numbers of the main thread, and under `threads` those of each
+-- other one of these threads.
+abbrev pub by_thread : (ThreadKey → Counts) → List ThreadKey → Json
+by_thread counts threads =
+    object_of
+    (numbers_of (counts Main) ++ (codes "threads", roots_value (by_root counts threads)) ∷ [])

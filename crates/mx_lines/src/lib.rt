@@ -3,8 +3,8 @@
 //!
 //! A [`LineCutter`] is fed pieces and gives their lines, which are the same however the bytes
 //! were cut: the definition of the lines of bytes (`specs/Lines.antt`) knows nothing of pieces.
-//! It holds the bytes of one longest line and takes no more memory. [`read`] gives a line's command by the table of
-//! commands (`specs/Commands.antt`), or its first refusal.
+//! It holds the bytes of one longest line and takes no more memory. [`read`] gives a line's command
+//! by the table of commands (`specs/Commands.antt`), or its first refusal.
 #![tactic(auto)]
 
 mod buffer;

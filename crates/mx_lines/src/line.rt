@@ -49,9 +49,7 @@ fn read_command(alloc: Global, line: Json) -> Result<Command, LineError>
     ensures valid { IfOk result (λ command. is_valid_command command ≡ true) }
 {
     match InputWord::of(&line) {
-        Some(InputWord::Receipt | InputWord::Pusher) => {
-            Err(LineError::Refused(LineRefusal::NotBuilt))
-        }
+        Some(InputWord::Pusher) => Err(LineError::Refused(LineRefusal::NotBuilt)),
         Some(_) => read_input(alloc, line),
         None => read_question(alloc, &line),
     }

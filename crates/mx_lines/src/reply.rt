@@ -1,22 +1,24 @@
 ghost use Rattle.std.specs.Prelude.{◌≡◌, ◌≤◌, ◌++◌, [], ◌∷◌, true, codes, take, vec_len, IfOk, OnOk, OnErr};
 ghost use Rattle.mx_json.specs.Json.{is_valid, largest_whole};
 ghost use Rattle.mx_records.specs.History.{History};
-ghost use Rattle.mx_records.specs.Refusing.{most_inputs, NamesAPosition};
+ghost use Rattle.mx_records.specs.Refusing.{NamesAPosition};
 ghost use Rattle.mx_json.specs.Ids.{is_local};
 ghost use Rattle.mx_records.specs.Snapshot.{snapshot_of};
 ghost use Rattle.mx_rule.specs.Predefined.{predefined_rules};
 ghost use Rattle.mx_rule.specs.Printed.{rules_object};
 ghost use Rattle.mx_lines.specs.Lines.{with_feed};
-ghost use Rattle.mx_lines.specs.Replies.{reply_text, number_of, error_value, ok_value, line_refusal_value, refusal_value, denied_value, numbers_of, by_thread, in_sum, counts_value, NamesInRange};
+ghost use Rattle.mx_lines.specs.Replies.{reply_text, number_of, error_value, ok_value, line_refusal_value, refusal_value, denied_value, NamesInRange};
 ghost use Rattle.mx_lines.specs.Admission.{reply_to, IsQuestion};
 
 use crate::command::{Command, Denial, LineRefusal};
+use counts::{by_thread, counts_value};
 use mx_defaults::predefined;
-use mx_json::{Json, JsonObject, JsonText, OutOfMemory, UserId};
-use mx_records::{Counts, FieldName, MOST_INPUTS, Questions, Refusal};
+use mx_json::{Json, JsonObject, JsonText, OutOfMemory, RoomId, UserId};
+use mx_records::{FieldName, MOST_INPUTS, Questions, Refusal};
 use mx_rule::Ruleset;
 use std::alloc::Global;
 
+mod counts;
 #[cfg(test)]
 mod tests;
 
@@ -79,7 +81,7 @@ pub fn reply_into<Q: Questions>(
             user,
             room,
             threads,
-        } => counts_into(alloc, questions.counts(user, room), *threads, out),
+        } => counts_into(alloc, questions, user, room, *threads, out),
         Command::Rules { user } => match questions.rules(user) {
             Some(rules) => rules_into(alloc, rules, out),
             None => predefined_into(alloc, user, server, out),
@@ -130,19 +132,29 @@ fn append_rules(alloc: Global, rules: &Ruleset, out: &mut Vec<u8>) -> Result<(),
     Ok(())
 }
 
-fn counts_into(
+/// Appends the reply with the counts of a room. After an error `out` is as before.
+fn counts_into<Q: Questions>(
     alloc: Global,
-    counts: Counts,
+    questions: &Q,
+    user: &UserId,
+    room: &RoomId,
     threads: bool,
     out: &mut Vec<u8>,
 ) -> Result<(), OutOfMemory>
-    requires notify { counts.notify ≤ most_inputs }
-    requires highlight { counts.highlight ≤ most_inputs }
-    ensures text { OnOk result
-        (out.new.items ≡ out.old.items ++ with_feed (reply_text (counts_value threads counts))) }
+    ensures text { (h : History) → Q.snapshot questions.now ≡ snapshot_of (Q.server questions.now) h
+        → OnOk result (out.new.items ≡ out.old.items ++ with_feed (reply_text
+        (reply_to (Q.server questions.now) h (Command.Counts user.now room.now threads)))) }
     ensures err { OnErr result (out.new.items ≡ out.old.items) }
 {
-    value_into(alloc, &counts_value(alloc, counts, threads)?, out)
+    if threads {
+        value_into(alloc, &by_thread(alloc, questions, user, room)?, out)
+    } else {
+        value_into(
+            alloc,
+            &counts_value(alloc, questions.room_counts(user, room))?,
+            out,
+        )
+    }
 }
 
 /// Appends `= `, the canonical text of a valid value and a line feed. After an error `out` is as
@@ -174,7 +186,7 @@ fn append_value(alloc: Global, value: &Json, out: &mut Vec<u8>) -> Result<(), Ou
 }
 
 /// A whole number that JSON can hold.
-fn number(n: u64) -> Json
+pub(crate) fn number(n: u64) -> Json
     requires { n ≤ largest_whole }
     ensures { result ≡ number_of n }
 {
@@ -225,6 +237,8 @@ fn refusal_value(alloc: Global, refusal: &Refusal) -> Result<Json, OutOfMemory>
         Refusal::KnownEvent(position) => {
             error_beside(alloc, "KnownEvent", "position", number(*position))
         }
+        Refusal::UnknownEvent => error_value(alloc, "UnknownEvent"),
+        Refusal::NotInThread => error_value(alloc, "NotInThread"),
         Refusal::RuleReserved => error_value(alloc, "RuleReserved"),
         Refusal::BadRule(part) => {
             let part = Json::Text(JsonText::read(alloc, FieldName::of_part(*part).name())?);
@@ -258,48 +272,4 @@ fn error_members(alloc: Global, name: &str) -> Result<JsonObject, OutOfMemory>
 {
     let name = Json::Text(JsonText::read(alloc, name)?);
     JsonObject::new(alloc).with(alloc, "error", name)
-}
-
-#[tactic(auto, unfolding(crate::specs::Replies::counts_value))]
-fn counts_value(alloc: Global, counts: Counts, threads: bool) -> Result<Json, OutOfMemory>
-    requires notify { counts.notify ≤ most_inputs }
-    requires highlight { counts.highlight ≤ most_inputs }
-    ensures { IfOk result (λ value. value ≡ counts_value threads counts) }
-{
-    if threads {
-        by_thread(alloc, counts)
-    } else {
-        in_sum(alloc, counts)
-    }
-}
-
-/// The counts of the main thread, and those of each other thread, of which there are none yet.
-fn by_thread(alloc: Global, counts: Counts) -> Result<Json, OutOfMemory>
-    requires notify { counts.notify ≤ most_inputs }
-    requires highlight { counts.highlight ≤ most_inputs }
-    ensures { IfOk result (λ value. value ≡ by_thread counts) }
-{
-    let others = JsonObject::new(alloc);
-    let main = numbers_of(alloc, counts)?;
-    let members = main.with(alloc, "threads", Json::Object(others))?;
-    Ok(Json::Object(members))
-}
-
-/// The sums over all threads.
-fn in_sum(alloc: Global, counts: Counts) -> Result<Json, OutOfMemory>
-    requires notify { counts.notify ≤ most_inputs }
-    requires highlight { counts.highlight ≤ most_inputs }
-    ensures { IfOk result (λ value. value ≡ in_sum counts) }
-{
-    Ok(Json::Object(numbers_of(alloc, counts)?))
-}
-
-fn numbers_of(alloc: Global, counts: Counts) -> Result<JsonObject, OutOfMemory>
-    requires notify { counts.notify ≤ most_inputs }
-    requires highlight { counts.highlight ≤ most_inputs }
-    ensures { IfOk result (λ members. members.pairs ≡ numbers_of counts) }
-{
-    JsonObject::new(alloc)
-        .with(alloc, "highlight_count", number(counts.highlight))?
-        .with(alloc, "notification_count", number(counts.notify))
 }

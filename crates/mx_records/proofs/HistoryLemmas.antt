@@ -1,41 +1,49 @@
 -- How a history, and what is read off it, goes on by one input.
-use Rattle.std.proofs.Common.{◌≡◌, ℕ, ◌+◌, List, [], ◌∷◌, ◌++◌, map, ap, sym, ◌∙◌}
-use Rattle.std.specs.FinMap.{insert}
-use Rattle.std.specs.List.{filter_map, fold}
+use Rattle.std.proofs.Common.{◌≡◌, ℕ, ◌+◌, Bool, List, [], ◌∷◌, ◌++◌, map, Option, None, refl, ap, sym, subst, ◌∙◌}
+use Rattle.std.specs.List.{cons_option, filter_map, fold}
 use Rattle.std.proofs.Common.{length-append}
 use Rattle.std.proofs.lemmas.List.{append-nil, append_assoc, map-append}
 use Rattle.std.proofs.lemmas.List.Elements.{filter_map-append}
 use Rattle.std.proofs.lemmas.List.Sums.{fold-append}
 use Rattle.mx_json.specs.declared.value.Json.{Json}
 use Rattle.mx_event.specs.Event.{room_id_of}
+use Rattle.mx_rows.specs.declared.thread_key.ThreadKey.{ThreadKey}
 use Rattle.mx_rule.specs.declared.edit.Edit.{Edit}
-use Rattle.mx_rule.specs.Editing.{edited}
 use Rattle.mx_room.specs.Change.{sets_of, with_sets}
-use Rattle.mx_room.specs.Rooms.{room_at, rooms_of, with_room}
-use Rattle.mx_room.proofs.RoomsLemmas.{room_at-rooms_of, rooms_of-push}
+use Rattle.mx_room.specs.Rooms.{room_at, rooms_of}
+use Rattle.mx_room.proofs.RoomsLemmas.{room_at-rooms_of}
 use Rattle.mx_room.proofs.StateLemmas.{room_of-push}
 use Rattle.mx_records.specs.declared.input.Input.{Input}
-use Rattle.mx_records.specs.declared.input.Input.TheVariants.{Event, Edit as EditInput}
-use Rattle.mx_records.specs.History.{History, Happening, arrivals, arrivals_after, events, happening_of, inputs_of, with_input}
+use Rattle.mx_records.specs.declared.input.Input.TheVariants.{Event, Edit as EditInput, Receipt}
+use Rattle.mx_records.specs.History.{History, Happening, arrivals, arrivals_after, events, happening_by, happening_of, inputs_of, with_input}
 use Rattle.mx_records.specs.Places.{places_of, with_place}
 use Rattle.mx_records.specs.Rooms.{events_of, room_after}
-use Rattle.mx_records.specs.Rules.{edited_rules, rules_of}
-use Rattle.mx_records.specs.Snapshot.{notified_by, snapshot_of}
-use Rattle.mx_records.proofs.RulesLemmas.{edited_rules-edit, edited_rules-event}
+
+-- what holds of the empty history, and of a history with one more input where it holds of that one, holds
+-- of each
+pub by_end : (P : History → Type 0) → P [] → ((h : History) (input : Input) → P h → P (with_input h input))
+    → (h : History) → P h
+by_end P none step h = from [] h none
+  where
+    from : (before later : History) → P before → P (before ++ later)
+    from before [] holds = subst P (sym (append-nil before)) holds
+    from before (input ∷ later) holds =
+        subst P (append_assoc before (input ∷ []) later)
+        (from (with_input before input) later (step before input holds))
 
 -- the event that comes after a history
 abbrev pub next_event : History → Json → Happening
 next_event h event = record { before = h; event = event }
 
-arrivals-push : (before inputs : History) (input : Input)
+pub arrivals_after-push : (before inputs : History) (input : Input)
     → arrivals_after before (inputs ++ input ∷ [])
     ≡ arrivals_after before inputs ++ record { before = before ++ inputs; input = input } ∷ []
 unfolding arrivals_after
-arrivals-push before [] input =
+arrivals_after-push before [] input =
     ap (λ (b : History). record { before = b; input = input } ∷ []) (sym (append-nil before))
-arrivals-push before (first ∷ inputs) input =
+arrivals_after-push before (first ∷ inputs) input =
     ap (λ rest. record { before = before; input = first } ∷ rest)
-    (arrivals-push (with_input before first) inputs input
+    (arrivals_after-push (with_input before first) inputs input
     ∙ ap (λ (b : History). arrivals_after (with_input before first) inputs ++ record { before = b; input = input } ∷ [])
     (append_assoc before (first ∷ []) inputs))
 
@@ -43,25 +51,37 @@ pub events-push : (h : History) (event : Json)
     → events (with_input h (Event event)) ≡ events h ++ next_event h event ∷ []
 unfolding events
 events-push h event =
-    ap (filter_map happening_of) (arrivals-push [] h (Event event))
+    ap (filter_map happening_of) (arrivals_after-push [] h (Event event))
     ∙ filter_map-append happening_of (arrivals h) (record { before = h; input = Event event } ∷ [])
 
+-- an input that isn't an event
+abbrev pub IsNoEvent : Input → Type 0
+IsNoEvent input = (before : History) → happening_by before input ≡ None
+
 -- an edit is no event
-pub events-edit : (h : History) (user : List ℕ) (edit : Edit) → events (with_input h (EditInput user edit)) ≡ events h
+pub edit-no_event : (user : List ℕ) (edit : Edit) → IsNoEvent (EditInput user edit)
+edit-no_event user edit before = refl
+
+-- a receipt is no event
+pub receipt-no_event : (user room id : List ℕ) (private : Bool) (named : Option ThreadKey)
+    → IsNoEvent (Receipt user room id private named)
+receipt-no_event user room id private named before = refl
+
+-- an input that is no event leaves the events as they were
+pub events-other : (h : History) (input : Input) → IsNoEvent input → events (with_input h input) ≡ events h
 unfolding events
-events-edit h user edit =
-    ap (filter_map happening_of) (arrivals-push [] h (EditInput user edit))
-    ∙ filter_map-append happening_of (arrivals h) (record { before = h; input = EditInput user edit } ∷ [])
+events-other h input none =
+    ap (filter_map happening_of) (arrivals_after-push [] h input)
+    ∙ filter_map-append happening_of (arrivals h) (record { before = h; input = input } ∷ [])
+    ∙ ap (λ o. filter_map happening_of (arrivals h) ++ cons_option o []) (none h)
     ∙ append-nil (filter_map happening_of (arrivals h))
 
-pub events_of-edit : (h : History) (user : List ℕ) (edit : Edit)
-    → events_of (with_input h (EditInput user edit)) ≡ events_of h
-events_of-edit h user edit = ap (map (λ (x : Happening). x.event)) (events-edit h user edit)
+pub events_of-other : (h : History) (input : Input) → IsNoEvent input → events_of (with_input h input) ≡ events_of h
+events_of-other h input none = ap (map (λ (x : Happening). x.event)) (events-other h input none)
 
-pub places_of-edit : (h : History) (user : List ℕ) (edit : Edit)
-    → places_of (with_input h (EditInput user edit)) ≡ places_of h
+pub places_of-other : (h : History) (input : Input) → IsNoEvent input → places_of (with_input h input) ≡ places_of h
 unfolding places_of
-places_of-edit h user edit = ap (fold with_place _) (events-edit h user edit)
+places_of-other h input none = ap (fold with_place _) (events-other h input none)
 
 pub events_of-push : (h : History) (event : Json)
     → events_of (with_input h (Event event)) ≡ events_of h ++ event ∷ []
@@ -86,47 +106,3 @@ pub room_after-next : (h : History) (event : Json)
 unfolding room_after
 room_after-next h event =
     room_of-push _ event ∙ ap (with_sets (sets_of event)) (sym (room_at-rooms_of (events_of h) (room_id_of event)))
-
--- what is known after one more event
-pub snapshot_of-push : (server : List ℕ) (h : History) (event : Json)
-    → snapshot_of server (with_input h (Event event)) ≡ record {
-      inputs = inputs_of h + 1;
-      places = with_place (places_of h) (next_event h event);
-      rooms = with_room (room_id_of event) (sets_of event) (rooms_of (events_of h));
-      rules = edited_rules server h;
-      notified = map (notified_by server) (events h) ++ notified_by server (next_event h event) ∷ [];
-    }
-unfolding snapshot_of
-snapshot_of-push server h event =
-    let inputs = inputs_of-push h (Event event) in
-    let places = places_of-push h event in
-    let rooms : rooms_of (events_of (with_input h (Event event)))
-    ≡ with_room (room_id_of event) (sets_of event) (rooms_of (events_of h)) =
-    ap rooms_of (events_of-push h event) ∙ rooms_of-push (events_of h) event in
-    let notified : map (notified_by server) (events (with_input h (Event event)))
-    ≡ map (notified_by server) (events h) ++ notified_by server (next_event h event) ∷ [] =
-    ap (map (notified_by server)) (events-push h event)
-    ∙ map-append (notified_by server) (events h) (next_event h event ∷ []) in
-    let rules = edited_rules-event server h event in
-    λ i. record { inputs = inputs i; places = places i; rooms = rooms i; rules = rules i; notified = notified i }
-
--- what is known after one more edit
-pub snapshot_of-edit : (server : List ℕ) (h : History) (user : List ℕ) (edit : Edit)
-    → snapshot_of server (with_input h (EditInput user edit)) ≡ record {
-      inputs = inputs_of h + 1;
-      places = places_of h;
-      rooms = rooms_of (events_of h);
-      rules = insert (edited_rules server h) user (edited (rules_of server h user) edit);
-      notified = map (notified_by server) (events h);
-    }
-unfolding snapshot_of
-snapshot_of-edit server h user edit =
-    let inputs = inputs_of-push h (EditInput user edit) in
-    let places = places_of-edit h user edit in
-    let rooms : rooms_of (events_of (with_input h (EditInput user edit))) ≡ rooms_of (events_of h) =
-    ap rooms_of (events_of-edit h user edit) in
-    let rules = edited_rules-edit server h user edit in
-    let notified : map (notified_by server) (events (with_input h (EditInput user edit)))
-    ≡ map (notified_by server) (events h) =
-    ap (map (notified_by server)) (events-edit h user edit) in
-    λ i. record { inputs = inputs i; places = places i; rooms = rooms i; rules = rules i; notified = notified i }

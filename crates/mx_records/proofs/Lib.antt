@@ -1,5 +1,13 @@
 pub mod FormLemmas
 pub mod HistoryLemmas
+pub mod CutLemmas
+pub mod UnreadLemmas
+pub mod ThreadLemmas
 pub mod NoticeLemmas
+pub mod KeptLemmas
+pub mod SnapshotLemmas
+pub mod ShownLemmas
+pub mod OrderedLemmas
+pub mod UnreadSteps
 pub mod PlacesLemmas
 pub mod RulesLemmas

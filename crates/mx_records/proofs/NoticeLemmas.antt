@@ -1,11 +1,9 @@
--- Whom an event notifies is a member of its room; and what is unread, read off those who were notified.
-use Rattle.std.proofs.Common.{◌≡◌, ℕ, suc, Bool, true, false, cond, not, ◌&&◌, ◌||◌, List, [], ◌∷◌, length, map, filter, codes, Option, Some, None, ◌⊎◌, inl, inr, is_some, option_map, option_and_then, unwrap_or, refl, ap, subst, sym, ◌∙◌}
+-- Whom an event notifies is a member of its room; and the row of an event, by whom it notifies.
+use Rattle.std.proofs.Common.{◌≡◌, ℕ, ◌+◌, Bool, true, false, cond, not, ◌&&◌, ◌||◌, List, [], ◌∷◌, ◌++◌, codes, Option, Some, None, ◌⊎◌, inl, inr, is_some, option_map, option_and_then, refl, ap, subst, sym, ◌∙◌}
 use Rattle.std.specs.FinMap.{get, keys}
-use Rattle.std.specs.List.{count_by, list_any}
+use Rattle.std.specs.List.{filter_map, list_any}
 use Rattle.std.specs.Option.{option_map_or}
 use Rattle.std.specs.Str.{bytes_eq}
-use Rattle.std.proofs.lemmas.List.Sums.{length-filter}
-use Rattle.mx_rows.proofs.RowLemmas.{count_by-filter}
 use Rattle.mx_json.specs.declared.value.Json.{Json}
 use Rattle.mx_json.specs.Ids.{is_user_id, localpart_of}
 use Rattle.mx_event.specs.Event.{membership_of, room_id_of, sender_of}
@@ -14,21 +12,26 @@ use Rattle.mx_room.specs.Change.{member_set_by, sets_of, with_member, with_sets}
 use Rattle.mx_room.specs.Facts.{facts_of}
 use Rattle.mx_room.specs.Members.{membership_at}
 use Rattle.mx_room.specs.Rooms.{events_in}
-use Rattle.mx_room.specs.State.{RoomState, member_by, room_of}
+use Rattle.mx_room.specs.State.{RoomState, member_by, member_in, named_by, room_of}
 use Rattle.mx_room.specs.Texts.{Texts}
 use Rattle.mx_room.specs.declared.member.Member.{Member}
 use Rattle.mx_room.proofs.JoinedLemmas.{has_key}
-use Rattle.mx_room.proofs.StateLemmas.{room_of-push}
+use Rattle.mx_room.proofs.StateLemmas.{member_in-covered, room_of-push}
 use Rattle.mx_room.proofs.TextsLemmas.{IsCovered, bytes_eq-flip, get-put, get-table}
+use Rattle.mx_rows.specs.declared.row.Row.{Row}
+use Rattle.mx_rows.specs.declared.thread_key.ThreadKey.{ThreadKey}
+use Rattle.mx_rows.specs.Threads.{same_thread}
 use Rattle.mx_rule.specs.declared.verdict.Verdict.{Verdict}
 use Rattle.mx_rule.specs.Judged.{invites, is_judged, judged, verdict_by}
 use Rattle.mx_rule.specs.Ruleset.{PushRuleset, flat}
-use Rattle.mx_records.specs.Counting.{counts_of, is_in, is_unread, unread}
-use Rattle.mx_records.specs.History.{History, Happening, events}
-use Rattle.mx_records.specs.Judging.{highlights, notice_in, notice_of, notices_in, verdict_for}
+use Rattle.mx_records.specs.Counting.{is_in}
+use Rattle.mx_records.specs.History.{History, Happening, inputs_of}
+use Rattle.mx_records.specs.Judging.{notice_in, notice_of, notices_in, notifies, verdict_for}
+use Rattle.mx_records.specs.Places.{thread}
 use Rattle.mx_records.specs.Rooms.{events_of, room_after}
 use Rattle.mx_records.specs.Rules.{rules_of}
-use Rattle.mx_records.specs.Snapshot.{Snapshot, counts_among, is_highlighted_in, is_notified_in, notified_by, snapshot_of}
+use Rattle.mx_records.proofs.HistoryLemmas.{next_event}
+use Rattle.mx_records.proofs.UnreadLemmas.{next_row}
 
 -- ---- who is notified is a member
 
@@ -93,17 +96,16 @@ get-notices server rules before event user =
     get-table (notice_in server rules (with_sets (sets_of event) before) event) _
     (notices-covered server rules before event) user
 
-get-happening : (server user : List ℕ) (x : Happening)
-    → get (notified_by server x).users user
+-- what is said of a user among those whom an event notifies, which happens
+pub get-noticed : (server user : List ℕ) (x : Happening)
+    → get (notices_in server (rules_of server x.before) (room_after x) x.event) user
     ≡ notice_in server (rules_of server x.before) (room_after x) x.event user
 unfolding room_after
-get-happening server user x =
+get-noticed server user x =
     let events = events_in (room_id_of x.event) (events_of x.before) in
     subst (λ (room : RoomState). get (notices_in server (rules_of server x.before) room x.event) user
     ≡ notice_in server (rules_of server x.before) room x.event user) (sym (room_of-push events x.event))
     (get-notices server (rules_of server x.before) (room_of events) x.event user)
-
--- ---- what is unread
 
 is_noticed : (v : Option Verdict)
     → is_some (option_and_then notice_of v) ≡ option_map_or (λ (verdict : Verdict). verdict.notify) v false
@@ -114,61 +116,60 @@ is_noticed (Some verdict) = by verdict.notify
     by true = refl
     by false = refl
 
-is_seen : (here : Bool) (v : Option Verdict)
-    → (here && unwrap_or (option_and_then notice_of v) false)
-    ≡ ((here && option_map_or (λ (verdict : Verdict). verdict.notify) v false)
-    && option_map_or (λ (verdict : Verdict). verdict.highlight) v false)
-is_seen true None = refl
-is_seen false v = refl
-is_seen true (Some verdict) = by verdict.notify
+-- an event notifies the users of whom something is said
+pub notifies-noticed : (server user : List ℕ) (x : Happening)
+    → is_some (notice_in server (rules_of server x.before) (room_after x) x.event user) ≡ notifies server user x
+notifies-noticed server user x = is_noticed (verdict_for server user x)
+
+-- whom an event notifies is named by an event of its room
+pub notice-unnamed : (server user : List ℕ) (x : Happening)
+    → member_in (events_in (room_id_of x.event) (events_of x.before) ++ x.event ∷ []) user ≡ None
+    → notifies server user x ≡ false
+unfolding room_after room_of
+notice-unnamed server user x none =
+    let before = events_in (room_id_of x.event) (events_of x.before) in
+    let after = before ++ x.event ∷ [] in
+    let absent : get (with_sets (sets_of x.event) (room_of before)).members user ≡ None =
+    ap (λ (room : RoomState). get room.members user) (sym (room_of-push before x.event))
+    ∙ get-table (member_in after) (filter_map named_by after) (member_in-covered after) user ∙ none in
+    let unsaid : notice_in server (rules_of server x.before) (room_after x) x.event user ≡ None =
+    subst (λ (room : RoomState). notice_in server (rules_of server x.before) room x.event user ≡ None)
+    (sym (room_of-push before x.event))
+    (notice-none server (rules_of server x.before) (room_of before) x.event user absent) in
+    sym (notifies-noticed server user x) ∙ ap is_some unsaid
+
+-- ---- the row of an event
+
+-- the row of what is said of an event, if anything is
+abbrev pub rows_by : ℕ → Option Bool → List Row
+rows_by position None = []
+rows_by position (Some highlight) = record { position = position; highlight = highlight } ∷ []
+
+row_by : (position : ℕ) (in_thread in_room : Bool) (v : Option Verdict)
+    → cond (in_thread && (in_room && option_map_or (λ (verdict : Verdict). verdict.notify) v false))
+    (record {
+      position = position;
+      highlight = option_map_or (λ (verdict : Verdict). verdict.highlight) v false;
+    } ∷ []) []
+    ≡ cond (in_room && in_thread) (rows_by position (option_and_then notice_of v)) []
+row_by position true true None = refl
+row_by position true true (Some verdict) = by verdict.notify
   where
-    by : (b : Bool) → unwrap_or (cond b (Some verdict.highlight) None) false ≡ (b && verdict.highlight)
+    by : (b : Bool)
+        → cond b (record { position = position; highlight = verdict.highlight } ∷ []) []
+        ≡ rows_by position (cond b (Some verdict.highlight) None)
     by true = refl
     by false = refl
+row_by position true false v = refl
+row_by position false true v = refl
+row_by position false false v = refl
 
-one_more : {A B : Type 0} (test : Bool) (x : A) (y : B) (xs : List A) (ys : List B) → length xs ≡ length ys
-    → length (cond test (x ∷ xs) xs) ≡ length (cond test (y ∷ ys) ys)
-one_more true x y xs ys same = ap (λ n. suc n) same
-one_more false x y xs ys same = same
-
-module _ {A B : Type 0} (f : A → B) (p : B → Bool) (q : A → Bool) (alike : (x : A) → p (f x) ≡ q x) where
-  length-alike : (xs : List A) → length (filter p (map f xs)) ≡ length (filter q xs)
-  length-alike [] = refl
-  length-alike (x ∷ xs) =
-      ap (λ b. length (cond b (f x ∷ filter p (map f xs)) (filter p (map f xs)))) (alike x)
-      ∙ one_more (q x) (f x) x (filter p (map f xs)) (filter q xs) (length-alike xs)
-
-  count-alike : (xs : List A) → count_by p (map f xs) ≡ count_by q xs
-  count-alike xs = sym (length-filter p (map f xs)) ∙ length-alike xs ∙ length-filter q xs
-
-module _ (server user room : List ℕ) where
-  is_notified-unread : (x : Happening)
-      → is_notified_in room user (notified_by server x) ≡ is_unread server user room x
-  is_notified-unread x =
-      ap (λ notice. is_in room x.event && is_some notice) (get-happening server user x)
-      ∙ ap (λ b. is_in room x.event && b) (is_noticed (verdict_for server user x))
-
-  is_highlighted-unread : (x : Happening)
-      → is_highlighted_in room user (notified_by server x)
-      ≡ (is_unread server user room x && highlights server user x)
-  is_highlighted-unread x =
-      ap (λ notice. is_in room x.event && unwrap_or notice false) (get-happening server user x)
-      ∙ is_seen (is_in room x.event) (verdict_for server user x)
-
-  -- a snapshot tells what is unread
-  pub counts_among-shown : (h : History) (shown : Snapshot) → shown ≡ snapshot_of server h
-      → counts_among shown.notified user room ≡ counts_of server h user room
-  unfolding counts_of snapshot_of
-  counts_among-shown h shown is =
-      let notify : count_by (is_notified_in room user) (map (notified_by server) (events h))
-      ≡ length (unread server h user room) =
-      count-alike (notified_by server) (is_notified_in room user) (is_unread server user room) is_notified-unread
-      (events h)
-      ∙ sym (length-filter (is_unread server user room) (events h)) in
-      let highlight : count_by (is_highlighted_in room user) (map (notified_by server) (events h))
-      ≡ count_by (highlights server user) (unread server h user room) =
-      count-alike (notified_by server) (is_highlighted_in room user)
-      (λ x. is_unread server user room x && highlights server user x) is_highlighted-unread (events h)
-      ∙ sym (count_by-filter (is_unread server user room) (highlights server user) (events h)) in
-      ap (λ (s : Snapshot). counts_among s.notified user room) is
-      ∙ (λ i. record { notify = notify i; highlight = highlight i })
+-- the row of the next event, by what is said of it
+pub next_row-noticed : (server : List ℕ) (h : History) (event : Json) (user room : List ℕ) (of : ThreadKey)
+    → next_row server h event user room of
+    ≡ cond (is_in room event && same_thread of (thread h event))
+    (rows_by (inputs_of h + 1)
+    (notice_in server (rules_of server h) (room_after (next_event h event)) event user)) []
+next_row-noticed server h event user room of =
+    row_by (inputs_of h + 1) (same_thread of (thread h event)) (is_in room event)
+    (verdict_for server user (next_event h event))

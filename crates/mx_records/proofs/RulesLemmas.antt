@@ -7,13 +7,14 @@ use Rattle.std.proofs.lemmas.List.Elements.{filter_map-append}
 use Rattle.std.proofs.lemmas.List.Folds.{list_any-append}
 use Rattle.std.proofs.lemmas.List.Sums.{fold-append}
 use Rattle.mx_json.specs.declared.value.Json.{Json}
+use Rattle.mx_rows.specs.declared.thread_key.ThreadKey.{ThreadKey}
 use Rattle.mx_room.proofs.TextsLemmas.{IsCovered, bytes_eq-itself, bytes_eq-same, get-table, same_table, table-set}
 use Rattle.mx_rule.specs.declared.edit.Edit.{Edit}
 use Rattle.mx_rule.specs.Editing.{edited}
 use Rattle.mx_rule.specs.Predefined.{predefined_rules}
 use Rattle.mx_rule.specs.Ruleset.{PushRuleset}
 use Rattle.mx_records.specs.declared.input.Input.{Input}
-use Rattle.mx_records.specs.declared.input.Input.TheVariants.{Event, Edit as EditInput}
+use Rattle.mx_records.specs.declared.input.Input.TheVariants.{Event, Edit as EditInput, Receipt}
 use Rattle.mx_records.specs.History.{History, with_input}
 use Rattle.mx_records.specs.Rules.{edit_by, edited_rules, editor_of, edits_of, has_edited, is_edit_of, own_rules, rules_among, rules_of}
 
@@ -34,10 +35,33 @@ rules_of-push server h input user =
     ap (fold edited (predefined_rules server user)) (edits_of-push h input user)
     ∙ fold-append edited (predefined_rules server user) (edits_of h user) (cons_option (edit_by user input) [])
 
+-- an input that edits no rules
+abbrev pub IsNoEdit : Input → Type 0
+IsNoEdit input = (user : List ℕ) → edit_by user input ≡ None
+
+-- an event is no edit
+pub event-no_edit : (event : Json) → IsNoEdit (Event event)
+event-no_edit event user = refl
+
+-- a receipt is no edit
+pub receipt-no_edit : (reader room id : List ℕ) (private : Bool) (named : Option ThreadKey)
+    → IsNoEdit (Receipt reader room id private named)
+receipt-no_edit reader room id private named user = refl
+
+rules_of-other_at : (server : List ℕ) (h : History) (input : Input) → IsNoEdit input → (user : List ℕ)
+    → rules_of server (with_input h input) user ≡ rules_of server h user
+rules_of-other_at server h input none user =
+    rules_of-push server h input user ∙ ap (changed_by (rules_of server h user)) (none user)
+
+-- an input that is no edit changes no rules
+pub rules_of-other : (server : List ℕ) (h : History) (input : Input) → IsNoEdit input
+    → rules_of server (with_input h input) ≡ rules_of server h
+rules_of-other server h input none = λ i user. rules_of-other_at server h input none user i
+
 -- an event changes no rules
 pub rules_of-event : (server : List ℕ) (h : History) (event : Json)
     → rules_of server (with_input h (Event event)) ≡ rules_of server h
-rules_of-event server h event = λ i user. rules_of-push server h (Event event) user i
+rules_of-event server h event = rules_of-other server h (Event event) (event-no_edit event)
 
 -- an edit changes the rules of its user
 pub rules_of-edit : (server : List ℕ) (h : History) (user : List ℕ) (edit : Edit)
@@ -73,6 +97,7 @@ has_edited-editors : (h : History) (user : List ℕ)
     → has_edited h user ≡ list_any (bytes_eq user) (filter_map editor_of h)
 has_edited-editors [] user = refl
 has_edited-editors (Event event ∷ h) user = has_edited-editors h user
+has_edited-editors (Receipt reader room id private named ∷ h) user = has_edited-editors h user
 has_edited-editors (EditInput editor edit ∷ h) user =
     ap (λ b. b || has_edited h user) (is_some-given (bytes_eq user editor) edit)
     ∙ ap (λ b. bytes_eq user editor || b) (has_edited-editors h user)
@@ -134,14 +159,15 @@ pub rules_among-of : (server : List ℕ) (h : History) (user : List ℕ)
     → rules_among server (edited_rules server h) user ≡ rules_of server h user
 rules_among-of server h user = λ i. rules_among-edited server h i user
 
--- an event is no edit
-pub own_rules-event : (server : List ℕ) (h : History) (event : Json) (user : List ℕ)
-    → own_rules server (with_input h (Event event)) user ≡ own_rules server h user
+own_rules-other : (server : List ℕ) (h : History) (input : Input) → IsNoEdit input → (user : List ℕ)
+    → own_rules server (with_input h input) user ≡ own_rules server h user
 unfolding own_rules
-own_rules-event server h event user =
-    ap (λ b. cond b (Some (rules_of server (with_input h (Event event)) user)) None)
-    (has_edited-push h (Event event) user ∙ or_false (has_edited h user))
-    ∙ ap (λ rules. cond (has_edited h user) (Some rules) None) (rules_of-push server h (Event event) user)
+own_rules-other server h input none user =
+    ap (λ b. cond b (Some (rules_of server (with_input h input) user)) None)
+    (has_edited-push h input user
+    ∙ ap (λ (edit : Option Edit). has_edited h user || (is_some edit || false)) (none user)
+    ∙ or_false (has_edited h user))
+    ∙ ap (λ rules. cond (has_edited h user) (Some rules) None) (rules_of-other_at server h input none user)
 
 or_true : (b : Bool) → (b || true) ≡ true
 or_true true = refl
@@ -173,14 +199,14 @@ own_rules-edit server h editor edit user =
         (or_false (has_edited h user))
         ∙ ap (λ rules. cond (has_edited h user) (Some rules) None) (rules_of-others server h editor edit user is)
 
--- the map after an event
-pub edited_rules-event : (server : List ℕ) (h : History) (event : Json)
-    → edited_rules server (with_input h (Event event)) ≡ edited_rules server h
+-- the map after an input that is no edit
+pub edited_rules-other : (server : List ℕ) (h : History) (input : Input) → IsNoEdit input
+    → edited_rules server (with_input h input) ≡ edited_rules server h
 unfolding edited_rules
-edited_rules-event server h event =
-    same_table (own_rules server h) (own_rules server (with_input h (Event event))) (filter_map editor_of h)
-    (filter_map editor_of (with_input h (Event event))) (own_rules-covered server h)
-    (own_rules-covered server (with_input h (Event event))) (own_rules-event server h event)
+edited_rules-other server h input none =
+    same_table (own_rules server h) (own_rules server (with_input h input)) (filter_map editor_of h)
+    (filter_map editor_of (with_input h input)) (own_rules-covered server h)
+    (own_rules-covered server (with_input h input)) (own_rules-other server h input none)
 
 -- the map after an edit
 pub edited_rules-edit : (server : List ℕ) (h : History) (user : List ℕ) (edit : Edit)

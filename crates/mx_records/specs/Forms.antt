@@ -4,22 +4,24 @@ use Rattle.std.specs.Option.{option_map_or}
 use Rattle.std.specs.Str.{bytes_eq}
 use Rattle.mx_json.specs.declared.value.Json.{Json, Null}
 use Rattle.mx_json.specs.declared.value.JsonList.{JsonList}
-use Rattle.mx_json.specs.Ids.{is_user_id}
+use Rattle.mx_json.specs.Ids.{is_event_id, is_room_id, is_user_id}
 use Rattle.mx_json.specs.Json.{list_at, list_of, member, text_at, text_of, text_or_empty, truth_at}
 use Rattle.mx_event.specs.declared.error.EventField.{EventField}
 use Rattle.mx_event.specs.declared.error.EventField.TheVariants as event_field
 use Rattle.mx_event.specs.Event.{fields_of, first_wrong}
+use Rattle.mx_rows.specs.declared.thread_key.ThreadKey.{ThreadKey}
+use Rattle.mx_rows.specs.declared.thread_key.ThreadKey.TheVariants.{Main, Root}
 use Rattle.mx_rule.specs.declared.edit.Edit.TheVariants.{Put, Delete, Enable, SetActions}
 use Rattle.mx_rule.specs.declared.kind.Kind.{Kind}
 use Rattle.mx_rule.specs.declared.kind.Kind.TheVariants as kind
 use Rattle.mx_records.specs.declared.field_name.FieldName.{FieldName}
-use Rattle.mx_records.specs.declared.field_name.FieldName.TheVariants.{Cmd, EventEventId, EventRoomId, EventSender, EventKind, EventContent, EventStateKey, User, Kind as KindField, RuleId, Actions, Conditions, Pattern, Before, After, Enabled}
+use Rattle.mx_records.specs.declared.field_name.FieldName.TheVariants.{Cmd, EventEventId, EventRoomId, EventSender, EventKind, EventContent, EventStateKey, User, Kind as KindField, RuleId, Actions, Conditions, Pattern, Before, After, Enabled, RoomId, EventId, ReceiptKind, ThreadId}
 use Rattle.mx_records.specs.declared.input.Input.{Input}
-use Rattle.mx_records.specs.declared.input.Input.TheVariants.{Event, Edit}
+use Rattle.mx_records.specs.declared.input.Input.TheVariants.{Event, Edit, Receipt}
 use Rattle.mx_records.specs.declared.input_error.InputError.{InputError}
 use Rattle.mx_records.specs.declared.input_error.InputError.TheVariants.{BadField}
 use Rattle.mx_records.specs.declared.input_word.InputWord.{InputWord}
-use Rattle.mx_records.specs.declared.input_word.InputWord.TheVariants.{Event as EventWord, RulePut, RuleDelete, RuleEnable, RuleActions}
+use Rattle.mx_records.specs.declared.input_word.InputWord.TheVariants.{Event as EventWord, RulePut, RuleDelete, RuleEnable, RuleActions, Receipt as ReceiptWord}
 use Rattle.mx_records.specs.InputWords.{input_word_in}
 
 -- A form: the fields of an object in their order, each with whether it is right, and what the
@@ -176,6 +178,67 @@ set_actions_form json = record {
   value = Edit (user_in json) (SetActions (edited_kind_in json) (rule_id_in json) (actions_in json));
 }
 
+-- ---- what stands in a receipt
+
+-- the value of `room_id`, and the empty text where that is none
+abbrev pub room_id_in : Json → List ℕ
+room_id_in json = text_or_empty (codes "room_id") json
+
+-- the value of `event_id`, and the empty text where that is none
+abbrev pub event_id_in : Json → List ℕ
+event_id_in json = text_or_empty (codes "event_id") json
+
+-- a receipt of the type that a text names is public, or private; other texts name none
+unfoldable pub privacy_named : List ℕ → Option Bool
+privacy_named text =
+    if bytes_eq text (codes "m.read") then Some false
+    else (if bytes_eq text (codes "m.read.private") then Some true else None)
+
+-- whether the receipt of the type under `type` is private
+abbrev pub privacy_in : Json → Option Bool
+privacy_in json = option_and_then privacy_named (text_at (codes "type") json)
+
+-- the thread that a text names: the main one, or that of the root with this id
+unfoldable pub thread_named : List ℕ → Option ThreadKey
+thread_named text =
+    if bytes_eq text (codes "main") then Some Main
+    else (if is_event_id text then Some (Root text) else None)
+
+-- the thread that a value names
+abbrev pub thread_told : Json → Option ThreadKey
+thread_told value = option_and_then thread_named (text_of value)
+
+-- nothing stands under `thread_id`, or what names a thread
+abbrev pub has_thread_or_none : Json → Bool
+has_thread_or_none json =
+    option_map_or (λ value. is_some (thread_told value)) (member (codes "thread_id") json) true
+
+-- the thread that stands under `thread_id`
+abbrev pub given_thread : Json → Option ThreadKey
+given_thread json = option_and_then thread_told (member (codes "thread_id") json)
+
+-- who read, in which room, and up to which event
+abbrev pub read_fields : Json → List (FieldName × Bool)
+read_fields json =
+    (User, is_user_id (user_in json)) ∷ (RoomId, is_room_id (room_id_in json))
+    ∷ (EventId, is_event_id (event_id_in json)) ∷ []
+
+-- what was read: the user, the room and the event; for private clauses
+abbrev pub read_form : Json → Form (List ℕ × List ℕ × List ℕ)
+read_form json = record {
+  fields = read_fields json;
+  value = (user_in json, room_id_in json, event_id_in json);
+}
+
+-- `receipt`
+abbrev pub receipt_form : Json → Form Input
+receipt_form json = record {
+  fields = read_fields json
+      ++ ((ReceiptKind, is_some (privacy_in json)) ∷ (ThreadId, has_thread_or_none json) ∷ []);
+  value = Receipt (user_in json) (room_id_in json) (event_id_in json) (unwrap_or (privacy_in json) false)
+      (given_thread json);
+}
+
 -- The form of each input that is built.
 abbrev pub input_form_of : InputWord → Json → Option (Form Input)
 input_form_of EventWord json = Some (event_form json)
@@ -183,6 +246,7 @@ input_form_of RulePut json = Some (put_form json)
 input_form_of RuleDelete json = Some (delete_form json)
 input_form_of RuleEnable json = Some (enable_form json)
 input_form_of RuleActions json = Some (set_actions_form json)
+input_form_of ReceiptWord json = Some (receipt_form json)
 input_form_of other json = None
 
 -- ---- reading an input

@@ -2,10 +2,12 @@ pub mod History
 pub mod Rooms
 pub mod Rules
 pub mod Judging
-pub mod Counting
 pub mod Places
+pub mod Cuts
+pub mod Counting
 pub mod Refusing
 pub mod Snapshot
+pub mod KeptRows
 pub mod FieldNames
 pub mod InputWords
 pub mod Forms

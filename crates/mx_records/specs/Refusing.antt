@@ -1,17 +1,22 @@
 -- Which inputs and questions a history refuses, and which inputs it may go on with: ours.
-use Rattle.std.specs.Prelude.{ℕ, ◌≤◌, List, ◌≡◌, Bool, nat_le, if◌then◌else◌, Option, None, Some, option_map}
-use Rattle.std.specs.Option.{option_or}
+use Rattle.std.specs.Prelude.{ℕ, ◌≤◌, List, ◌≡◌, Bool, true, not, ◌||◌, nat_le, if◌then◌else◌, Option, None, Some, option_map, find}
+use Rattle.std.specs.Option.{option_map_or, option_or}
+use Rattle.std.specs.Str.{bytes_eq}
 use Rattle.mx_json.specs.Ids.{is_local}
 use Rattle.mx_event.specs.Event.{event_id_of}
 use Rattle.mx_rule.specs.declared.edit.EditRefusal.{EditRefusal}
 use Rattle.mx_rule.specs.declared.edit.EditRefusal.TheVariants as edit
 use Rattle.mx_rule.specs.Editing.{refusal_of_edit}
 use Rattle.mx_records.specs.declared.input.Input.{Input}
-use Rattle.mx_records.specs.declared.input.Input.TheVariants.{Event, Edit}
+use Rattle.mx_records.specs.declared.input.Input.TheVariants.{Event, Edit, Receipt}
 use Rattle.mx_records.specs.declared.refusal.Refusal.{Refusal}
-use Rattle.mx_records.specs.declared.refusal.Refusal.TheVariants.{NotLocal, KnownEvent, RuleReserved, BadRule, RuleUnknown, AnchorUnknown, RulesFull, Full}
-use Rattle.mx_records.specs.History.{History, inputs_of}
-use Rattle.mx_records.specs.Places.{position_of}
+use Rattle.mx_records.specs.declared.refusal.Refusal.TheVariants.{NotLocal, KnownEvent, UnknownEvent, NotInThread, RuleReserved, BadRule, RuleUnknown, AnchorUnknown, RulesFull, Full}
+use Rattle.mx_records.specs.History.{Happening, History, events, inputs_of}
+use Rattle.mx_rows.specs.declared.thread_key.ThreadKey.{ThreadKey}
+use Rattle.mx_rows.specs.declared.thread_key.ThreadKey.TheVariants.{Main, Root}
+use Rattle.mx_rows.specs.Threads.{same_thread}
+use Rattle.mx_records.specs.Counting.{is_in, thread_in}
+use Rattle.mx_records.specs.Places.{is_event_with, position_of}
 use Rattle.mx_records.specs.Rules.{rules_of}
 
 -- as many inputs as a history may have
@@ -30,13 +35,30 @@ refusal_by edit.RuleUnknown = RuleUnknown
 refusal_by edit.AnchorUnknown = AnchorUnknown
 refusal_by edit.RulesFull = RulesFull
 
+-- the event with this id is in the thread that a receipt names, or is its root
+abbrev pub is_read_in : List ℕ → Happening → ThreadKey → Bool
+is_read_in id happening Main = same_thread Main (thread_in happening)
+is_read_in id happening (Root root) = same_thread (Root root) (thread_in happening) || bytes_eq root id
+
+-- why a receipt that names this event of a room, and perhaps a thread, is refused: the event is none of
+-- the room, or not in the thread
+abbrev pub refusal_of_read : List ℕ → List ℕ → Option ThreadKey → Option Happening → Option Refusal
+refusal_of_read room id named None = Some UnknownEvent
+refusal_of_read room id named (Some happening) =
+    if not (is_in room happening.event) then Some UnknownEvent
+    else (if not (option_map_or (is_read_in id happening) named true) then Some NotInThread else None)
+
 -- why a history refuses an input for what it says: an event whose id was accepted is known, at
--- the first position of its id; an edit is of a local user, and does what that user's rules allow
+-- the first position of its id; an edit is of a local user, and does what that user's rules allow;
+-- a receipt is of a local user, and names an event of its room, in the thread that it names, if any
 abbrev pub refusal_of_content : List ℕ → History → Input → Option Refusal
 refusal_of_content server h (Event event) =
     option_map KnownEvent (position_of h (event_id_of event))
 refusal_of_content server h (Edit user edit) =
     if is_local server user then option_map refusal_by (refusal_of_edit (rules_of server h user) edit)
+    else Some NotLocal
+refusal_of_content server h (Receipt user room id private named) =
+    if is_local server user then refusal_of_read room id named (find (is_event_with id) (events h))
     else Some NotLocal
 
 -- Why a history refuses an input: for what it says, and else because the history is full.
@@ -52,6 +74,8 @@ IsAcceptable server h input = refusal_of server h input ≡ None
 abbrev pub NamesAPosition : Refusal → Type 0
 NamesAPosition NotLocal = Unit {0}
 NamesAPosition (KnownEvent position) = position ≤ most_inputs
+NamesAPosition UnknownEvent = Unit {0}
+NamesAPosition NotInThread = Unit {0}
 NamesAPosition RuleReserved = Unit {0}
 NamesAPosition (BadRule part) = Unit {0}
 NamesAPosition RuleUnknown = Unit {0}

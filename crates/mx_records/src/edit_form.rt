@@ -115,8 +115,8 @@ fn read_rule(alloc: Global, json: &Json) -> Result<(UserId, Kind, JsonText), Inp
     Ok((user, kind, rule_id))
 }
 
-/// The user whose rule is edited.
-fn read_user(alloc: Global, json: &Json) -> Result<UserId, InputError>
+/// The user that stands under `user`.
+pub(crate) fn read_user(alloc: Global, json: &Json) -> Result<UserId, InputError>
     requires { is_valid json.now ≡ true }
     ensures { Gives InputError.OutOfMemory result
         (checked FieldName.User (is_user_id (user_in json.now)) (user_in json.now)) }

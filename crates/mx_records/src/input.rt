@@ -5,9 +5,11 @@ ghost use Rattle.mx_records.specs.Rules.{is_valid_input};
 ghost use Rattle.mx_records.specs.Forms.{event_in, name_in_event, event_form, input_in, value_of_form};
 
 use crate::edit_form::{read_delete, read_enable, read_put, read_set_actions};
+use crate::receipt_form::read_receipt;
 use crate::{FieldName, InputError, InputWord};
 use mx_event::{Event, EventError, EventField};
-use mx_json::{Json, UserId};
+use mx_json::{EventId, Json, RoomId, UserId};
+use mx_rows::ThreadKey;
 use mx_rule::Edit;
 use std::alloc::Global;
 
@@ -22,6 +24,19 @@ pub enum Input {
         user: UserId,
         /// The edit.
         edit: Edit,
+    },
+    /// A user read a room, or a thread of it, up to an event.
+    Receipt {
+        /// Who read it.
+        user: UserId,
+        /// The room.
+        room: RoomId,
+        /// The last event that was read.
+        event: EventId,
+        /// Whether the receipt is kept from the room's other members, `m.read.private`.
+        private: bool,
+        /// The thread that was read; `None` where all of the room was.
+        thread: Option<ThreadKey>,
     },
 }
 
@@ -45,6 +60,7 @@ impl Input {
             Some(InputWord::RuleDelete) => read_delete(alloc, &json),
             Some(InputWord::RuleEnable) => read_enable(alloc, &json),
             Some(InputWord::RuleActions) => read_set_actions(alloc, &json),
+            Some(InputWord::Receipt) => read_receipt(alloc, &json),
             _ => Err(InputError::BadField(FieldName::Cmd)),
         }
     }

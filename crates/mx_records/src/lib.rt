@@ -2,10 +2,11 @@
 //!
 //! A history is the list of the inputs that were accepted; each answer is a definition over the
 //! whole list (`specs/`): the room after an event (`Rooms.antt`), each user's rules (`Rules.antt`),
-//! whom an event notifies (`Judging.antt`), its place and thread (`Places.antt`), what is unread
-//! (`Counting.antt`), what is refused (`Refusing.antt`). An input is read from a JSON object by the
-//! form that its word asks for (`specs/Forms.antt`). A state that stands for a history shows a
-//! snapshot of it, and is asked by way of [`Questions`].
+//! whom an event notifies (`Judging.antt`), its place and thread (`Places.antt`), up to where a
+//! user has read (`Cuts.antt`), what is unread (`Counting.antt`), what is refused
+//! (`Refusing.antt`). An input is read from a JSON object by the form that its word asks for
+//! (`specs/Forms.antt`). A state that stands for a history shows a snapshot of it, and is asked by
+//! way of [`Questions`].
 #![tactic(auto)]
 
 mod edit_form;
@@ -14,6 +15,7 @@ mod input;
 mod input_error;
 mod input_word;
 mod questions;
+mod receipt_form;
 mod refusal;
 #[cfg(test)]
 mod tests;

@@ -16,6 +16,10 @@ pub enum Refusal {
     NotLocal,
     /// The event id was accepted before, first at this position (from 1).
     KnownEvent(u64),
+    /// The event that a receipt names isn't an accepted event of its room.
+    UnknownEvent,
+    /// The event that a receipt names is neither in the thread that it names nor its root.
+    NotInThread,
     /// A put or a delete of a rule id that begins with a full stop, or a put of one that holds a
     /// slash or a backslash.
     RuleReserved,
@@ -38,6 +42,8 @@ impl fmt::Display for Refusal {
             Refusal::KnownEvent(position) => {
                 write!(f, "the event is known, at position {position}")
             }
+            Refusal::UnknownEvent => f.write_str("the room has no such event"),
+            Refusal::NotInThread => f.write_str("the event isn't in that thread"),
             Refusal::RuleReserved => f.write_str("the rule id is reserved"),
             Refusal::BadRule(part) => {
                 let field = FieldName::of_part(*part);

@@ -105,6 +105,31 @@ static EDITS: &[(&str, &str)] = &[
     (r#"{"cmd":"rule_actions","user":"@a:b","kind":"room","rule_id":"r","actions":["notify"]}"#, "none"),
 ];
 
+#[test]
+fn the_first_wrong_field_of_a_receipt(rt: HostRuntime) {
+    have_wrong_fields(&rt, rt.alloc(), RECEIPTS);
+}
+
+#[rattlefmt::skip]
+static RECEIPTS: &[(&str, &str)] = &[
+    (r#"{"cmd":"receipt"}"#, "user"),
+    (r#"{"cmd":"receipt","user":"@a","room_id":7}"#, "user"),
+    (r#"{"cmd":"receipt","user":"@a:b","event_id":"$1","type":"m.read"}"#, "room_id"),
+    (r#"{"cmd":"receipt","user":"@a:b","room_id":"$1","event_id":"!r"}"#, "room_id"),
+    (r#"{"cmd":"receipt","user":"@a:b","room_id":"!r","type":"m.read"}"#, "event_id"),
+    (r#"{"cmd":"receipt","user":"@a:b","room_id":"!r","event_id":"!r","type":7}"#, "event_id"),
+    (r#"{"cmd":"receipt","user":"@a:b","room_id":"!r","event_id":"$1","thread_id":7}"#, "type"),
+    (r#"{"cmd":"receipt","user":"@a:b","room_id":"!r","event_id":"$1","type":"m.fully_read"}"#, "type"),
+    (r#"{"cmd":"receipt","user":"@a:b","room_id":"!r","event_id":"$1","type":["m.read"]}"#, "type"),
+    (r#"{"cmd":"receipt","user":"@a:b","room_id":"!r","event_id":"$1","type":"m.read","thread_id":null}"#, "thread_id"),
+    (r#"{"cmd":"receipt","user":"@a:b","room_id":"!r","event_id":"$1","type":"m.read","thread_id":"Main"}"#, "thread_id"),
+    (r#"{"cmd":"receipt","user":"@a:b","room_id":"!r","event_id":"$1","type":"m.read","thread_id":"$"}"#, "thread_id"),
+    (r#"{"cmd":"receipt","user":"@a:b","room_id":"!r","event_id":"$1","type":"m.read","thread_id":"!r"}"#, "thread_id"),
+    (r#"{"cmd":"receipt","user":"@a:b","room_id":"!r","event_id":"$1","type":"m.read"}"#, "none"),
+    (r#"{"cmd":"receipt","user":"@a:b","room_id":"!r","event_id":"$1","type":"m.read","thread_id":"main"}"#, "none"),
+    (r#"{"cmd":"receipt","user":"@a:b","room_id":"!r","event_id":"$1","type":"m.read.private","thread_id":"$2"}"#, "none"),
+];
+
 /// A deletion of a rule whose id has so many bytes.
 fn long_deletion(rt: &impl Abort, alloc: Global, length: usize) -> String {
     format!(in alloc;

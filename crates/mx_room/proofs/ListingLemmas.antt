@@ -1,5 +1,5 @@
 -- How the list of a room's joined local users steps where something is said of one user.
-use Rattle.std.proofs.Common.{◌≡◌, ℕ, Bool, true, false, cond, ◌&&◌, ◌||◌, not, List, [], ◌∷◌, ◌++◌, Option, Some, None, is_some, refl, sym, subst, ap, ◌∙◌}
+use Rattle.std.proofs.Common.{◌≡◌, ℕ, Bool, true, false, cond, ◌&&◌, ◌||◌, not, codes, List, [], ◌∷◌, ◌++◌, Option, Some, None, is_some, refl, sym, subst, ap, ◌∙◌}
 use Rattle.std.specs.Cmp.Lexicographic.{nat_list_eq_equiv, slice_cmp}
 use Rattle.std.specs.FinMap.{empty, get, get-empty, insert}
 use Rattle.std.specs.List.{AllByRecursion, IsDistinct, filter, list_any}
@@ -12,7 +12,7 @@ use Rattle.std.proofs.lemmas.Map.Made.{is_member-filter}
 use Rattle.mx_json.specs.Ids.{is_user_id, localpart_of}
 use Rattle.mx_room.specs.Change.{Sets, with_member, with_sets}
 use Rattle.mx_room.specs.Hosted.{IsListing, user_of}
-use Rattle.mx_room.specs.Members.{has_joined, joins}
+use Rattle.mx_room.specs.Members.{has_joined, joins, membership_at}
 use Rattle.mx_room.specs.Rooms.{is_local_id, is_local_member}
 use Rattle.mx_room.specs.State.{RoomState, room_of}
 use Rattle.mx_room.specs.Texts.{Texts, table}
@@ -178,6 +178,13 @@ nobody_joined server q =
     ∙ ap (λ (o : Option Member). is_local_id server q && option_map_or joins o false)
     (get-empty (slice_cmp nat_cmp) q)
     ∙ and_false (is_local_id server q)
+
+-- where nothing is known of a room the membership of everybody is `leave`
+pub nobody_member : (q : List ℕ) → membership_at (room_of []) q ≡ codes "leave"
+nobody_member q =
+    ap (λ (members : Texts Member). option_map_or (λ (m : Member). m.membership) (get members q) (codes "leave")) no_members
+    ∙ ap (λ (o : Option Member). option_map_or (λ (m : Member). m.membership) o (codes "leave"))
+    (get-empty (slice_cmp nat_cmp) q)
 
 pub listing-none : (server : List ℕ) → IsListing server (room_of []) []
 listing-none server q = sym (nobody_joined server q)

@@ -6,7 +6,7 @@ ghost use Rattle.std.specs.String.{string_bytes};
 ghost use Rattle.mx_json.specs.declared.value.Json.{Json};
 ghost use Rattle.mx_room.specs.Change.{after, sets_of, with_member, with_sets};
 ghost use Rattle.mx_room.specs.Kept.{by_bytes, by_text};
-ghost use Rattle.mx_room.specs.Members.{has_joined, joined_count, joined_where, joins};
+ghost use Rattle.mx_room.specs.Members.{has_joined, joined_count, joined_where, joins, membership_at};
 ghost use Rattle.mx_room.specs.State.{room_of};
 
 use crate::member::Member;
@@ -120,6 +120,16 @@ impl Room {
         ensures { option_copied result ≡ get self.now.state.members user.now }
     {
         member_in(&self.members, user)
+    }
+
+    // The membership that is said of this user, and `leave` where nothing is.
+    pub(crate) fn membership(&self, user: &str) -> &str
+        ensures { result.now ≡ membership_at self.now.state user.now }
+    {
+        match self.member(user) {
+            Some(member) => member.membership.as_str(),
+            None => "leave",
+        }
     }
 
     // How many members are joined.

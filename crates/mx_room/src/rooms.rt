@@ -7,6 +7,7 @@ ghost use Rattle.mx_json.specs.declared.value.Json.{Json};
 ghost use Rattle.mx_event.specs.Event.{room_id_of};
 ghost use Rattle.mx_room.specs.Change.{sets_of, with_sets};
 ghost use Rattle.mx_room.specs.Hosted.{AreHosted, KeepsRooms, ready_in, states_in};
+ghost use Rattle.mx_room.specs.Members.{membership_at};
 ghost use Rattle.mx_room.specs.Rooms.{is_local_member, room_at, rooms_of, with_room};
 
 use crate::hosted::HostedRoom;
@@ -109,6 +110,17 @@ impl Rooms {
         match self.rooms.get(id) {
             Some(hosted) => hosted.local.users(),
             None => &[],
+        }
+    }
+
+    /// The user's membership of a room; `leave` where no event of the room speaks of the user. Takes
+    /// no memory.
+    pub fn membership(&self, id: &RoomId, user: &str) -> &str
+        ensures { result.now ≡ membership_at (room_at self.now.states id.now) user.now }
+    {
+        match self.rooms.get(id) {
+            Some(hosted) => hosted.room.membership(user),
+            None => "leave",
         }
     }
 

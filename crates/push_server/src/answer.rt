@@ -12,13 +12,14 @@ use mx_engine::{Engine, PrepareError};
 use mx_json::{OutOfMemory, UserId};
 use mx_lines::{Command, Cut, Denial, LineError, denied_into, ok_into, read, reply_into};
 use mx_records::{Input, Refusal};
+use mx_rows::PlainRows;
 use std::alloc::Global;
 
 /// Answers the line that a cut shows, if it shows one: the engine goes on with what it asks for, and its reply comes
 /// to the end of `out`, with its line feed. After an error nothing is said of the engine: the run ends.
 pub fn answer(
     alloc: Global,
-    engine: &mut Engine,
+    engine: &mut Engine<PlainRows>,
     cut: Cut,
     out: &mut Vec<u8>,
 ) -> Result<(), OutOfMemory>
@@ -38,7 +39,7 @@ pub fn answer(
 /// Answers a line (without its line feed) that isn't too long.
 fn answer_line(
     alloc: Global,
-    engine: &mut Engine,
+    engine: &mut Engine<PlainRows>,
     line: &[u8],
     out: &mut Vec<u8>,
 ) -> Result<(), OutOfMemory>
@@ -58,7 +59,7 @@ fn answer_line(
 /// Does what a command asks for, or refuses it, and appends the reply.
 fn follow(
     alloc: Global,
-    engine: &mut Engine,
+    engine: &mut Engine<PlainRows>,
     command: &Command,
     out: &mut Vec<u8>,
 ) -> Result<(), OutOfMemory>
@@ -80,7 +81,7 @@ fn follow(
 /// Appends the reply to a question about a user, or refuses it where the user isn't local.
 fn reply_about(
     alloc: Global,
-    engine: &Engine,
+    engine: &Engine<PlainRows>,
     user: &UserId,
     command: &Command,
     out: &mut Vec<u8>,
@@ -101,7 +102,7 @@ fn reply_about(
 /// Accepts an input, or refuses it, and appends the reply.
 fn accept(
     alloc: Global,
-    engine: &mut Engine,
+    engine: &mut Engine<PlainRows>,
     input: &Input,
     out: &mut Vec<u8>,
 ) -> Result<(), OutOfMemory>

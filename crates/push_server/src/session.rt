@@ -13,12 +13,13 @@ use mx_engine::Engine;
 use mx_json::OutOfMemory;
 use mx_lines::{Cut, LineCutter};
 use mx_outside::Sink;
+use mx_rows::PlainRows;
 use std::alloc::Global;
 
 /// One run of the server, between two pieces of its input.
 #[derive(Drop)]
 pub struct Session {
-    engine: Engine,
+    engine: Engine<PlainRows>,
     lines: LineCutter,
     reply: Vec<u8>,
 }
@@ -98,7 +99,7 @@ impl Session {
 /// Answers the line that is shown, if there is one, its reply written whole, by way of the buffer `reply`.
 fn answer_cut<K: Sink>(
     alloc: Global,
-    engine: &mut Engine,
+    engine: &mut Engine<PlainRows>,
     cut: Cut,
     reply: &mut Vec<u8>,
     sink: &mut K,

@@ -2,6 +2,7 @@ mod edited;
 mod edits;
 mod fixtures;
 mod full;
+mod receipts;
 mod refusals;
 mod rooms;
 mod serving;

@@ -23,6 +23,8 @@ fn word_of(command: &Command) -> &'static str {
     match command {
         Command::Input(Input::Event(_)) => "event",
         Command::Input(Input::Edit { edit, .. }) => word_of_edit(edit),
+        Command::Input(Input::Receipt { thread: None, .. }) => "receipt of a room",
+        Command::Input(Input::Receipt { .. }) => "receipt of a thread",
         Command::Counts { threads: true, .. } => "counts, thread by thread",
         Command::Counts { threads: false, .. } => "counts in sum",
         Command::Rules { .. } => "rules",
@@ -54,7 +56,7 @@ fn what_lines_are_read_as(rt: HostRuntime) {
 }
 
 #[rattlefmt::skip]
-static READ_AS: [(&str, &str); 19] = [
+static READ_AS: [(&str, &str); 27] = [
     (r#"{"cmd":"event","event":{"content":{},"event_id":"$1","room_id":"!r","sender":"@a:b","type":"t"}}"#, "event"),
     (r#"{"cmd":"rule_put","user":"@a:b","kind":"content","rule_id":"cake","actions":["notify"],"pattern":"cake"}"#, "rule_put"),
     (r#"{"cmd":"rule_put","user":"@a:b","kind":"override","rule_id":"r1","actions":[],"before":"r2","after":"r3"}"#, "rule_put"),
@@ -71,7 +73,15 @@ static READ_AS: [(&str, &str); 19] = [
     (r#"{"cmd":"rules","user":"@a:b"}"#, "rules"),
     (r#"{"cmd":"rules","user":"a:b"}"#, "user"),
     (r#"{"cmd":"rules"}"#, "user"),
-    (r#"{"cmd":"receipt"}"#, "NotBuilt"),
+    (r#"{"cmd":"receipt","user":"@a:b","room_id":"!r","event_id":"$1","type":"m.read"}"#, "receipt of a room"),
+    (r#"{"cmd":"receipt","user":"@a:b","room_id":"!r","event_id":"$1","type":"m.read.private","thread_id":"main"}"#, "receipt of a thread"),
+    (r#"{"cmd":"receipt","user":"@a:b","room_id":"!r","event_id":"$2","type":"m.read","thread_id":"$1"}"#, "receipt of a thread"),
+    (r#"{"cmd":"receipt"}"#, "user"),
+    (r#"{"cmd":"receipt","user":"@a:b","room_id":"r","event_id":"1"}"#, "room_id"),
+    (r#"{"cmd":"receipt","user":"@a:b","room_id":"!r","event_id":"1","type":"m.read"}"#, "event_id"),
+    (r#"{"cmd":"receipt","user":"@a:b","room_id":"!r","event_id":"$1","type":"m.fully_read","thread_id":"none"}"#, "type"),
+    (r#"{"cmd":"receipt","user":"@a:b","room_id":"!r","event_id":"$1","type":"m.read","thread_id":"thread"}"#, "thread_id"),
+    (r#"{"cmd":"receipt","user":"@a:b","room_id":"!r","event_id":"$1","type":"m.read","thread_id":null}"#, "thread_id"),
     (r#"{"cmd":"pusher","user":"@a:b"}"#, "NotBuilt"),
     (r#"{"cmd":"rule","user":"@a:b"}"#, "cmd"),
 ];

@@ -21,6 +21,8 @@ fn texts(rt: HostRuntime) -> Result<(), Fail> {
         Denial::Line(LineRefusal::BadField(FieldName::EventEventId)),
         Denial::Input(Refusal::NotLocal),
         Denial::Input(Refusal::KnownEvent(3)),
+        Denial::Input(Refusal::UnknownEvent),
+        Denial::Input(Refusal::NotInThread),
         Denial::Input(Refusal::RuleReserved),
         Denial::Input(Refusal::BadRule(Part::RuleId)),
         Denial::Input(Refusal::BadRule(Part::Pattern)),
@@ -38,6 +40,8 @@ fn texts(rt: HostRuntime) -> Result<(), Fail> {
         = {\"error\":\"BadField\",\"field\":\"event.event_id\"}\n\
         = {\"error\":\"NotLocal\"}\n\
         = {\"error\":\"KnownEvent\",\"position\":3}\n\
+        = {\"error\":\"UnknownEvent\"}\n\
+        = {\"error\":\"NotInThread\"}\n\
         = {\"error\":\"RuleReserved\"}\n\
         = {\"error\":\"BadRule\",\"part\":\"rule_id\"}\n\
         = {\"error\":\"BadRule\",\"part\":\"pattern\"}\n\

@@ -6,6 +6,7 @@ ghost use Rattle.mx_records.specs.Rules.{is_valid_input};
 use mx_engine::{Engine, PrepareError, Refusal};
 use mx_lines::{Command, read};
 use mx_records::Input;
+use mx_rows::PlainRows;
 use std::alloc::Global;
 use std::process::Abort;
 
@@ -27,7 +28,7 @@ fn is_full_at(rt: &impl Abort, alloc: Global, times: u64) -> bool {
 fn is_full_after(rt: &impl Abort, alloc: Global, input: &Input, times: u64) -> bool
     requires { is_valid_input input.now ≡ true }
 {
-    let mut engine = Engine::new(alloc, "example.org").expect(rt, "an engine");
+    let mut engine: Engine<PlainRows> = Engine::new(alloc, "example.org").expect(rt, "an engine");
     for _ in 0..times {
         if !is_accepted(alloc, &mut engine, input) {
             return false;
@@ -36,7 +37,7 @@ fn is_full_after(rt: &impl Abort, alloc: Global, input: &Input, times: u64) -> b
     engine.prepare(alloc, input).err() == Some(PrepareError::Refused(Refusal::Full))
 }
 
-fn is_accepted(alloc: Global, engine: &mut Engine, input: &Input) -> bool
+fn is_accepted(alloc: Global, engine: &mut Engine<PlainRows>, input: &Input) -> bool
     requires { is_valid_input input.now ≡ true }
 {
     match engine.prepare(alloc, input) {

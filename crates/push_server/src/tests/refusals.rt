@@ -57,8 +57,7 @@ static WRONG_FIELDS: [(&str, &str); 13] = [
 ];
 
 /// Commands that aren't built, whatever else they say.
-static NOT_BUILT: [&str; 7] = [
-    r#"{"cmd":"receipt","event_id":"$known"}"#,
+static NOT_BUILT: [&str; 6] = [
     r#"{"cmd":"pusher"}"#,
     r#"{"cmd":"pushers"}"#,
     r#"{"cmd":"turn","units":0}"#,

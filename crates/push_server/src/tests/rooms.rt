@@ -6,12 +6,12 @@ use std::process::Abort;
 
 /// An event: its room, its sender, its type, its state key if it is a state event, its content.
 #[derive(Clone, Copy)]
-struct Told(
-    &'static str,
-    &'static str,
-    &'static str,
-    Option<&'static str>,
-    &'static str,
+pub(super) struct Told(
+    pub(super) &'static str,
+    pub(super) &'static str,
+    pub(super) &'static str,
+    pub(super) Option<&'static str>,
+    pub(super) &'static str,
 );
 
 /// Events, all of which are accepted, and what is replied to questions after them: the room, the user, the reply.
@@ -82,19 +82,31 @@ fn say_event(rt: &impl Abort, alloc: Global, script: &mut Script, told: Told) {
     say_accepted(rt, alloc, script, line.as_str(), number);
 }
 
-fn say_accepted(rt: &impl Abort, alloc: Global, script: &mut Script, line: &str, position: usize) {
+pub(super) fn say_accepted(
+    rt: &impl Abort,
+    alloc: Global,
+    script: &mut Script,
+    line: &str,
+    position: usize,
+) {
     let reply = format!(in alloc; r#"= {{"ok":{position}}}"#).expect(rt, line);
     script.say(rt, line.as_bytes(), reply.as_str());
 }
 
-fn state_line(rt: &impl Abort, alloc: Global, told: Told, key: &str, number: usize) -> String {
+pub(super) fn state_line(
+    rt: &impl Abort,
+    alloc: Global,
+    told: Told,
+    key: &str,
+    number: usize,
+) -> String {
     let Told(room, sender, kind, _, content) = told;
     format!(in alloc;
         r#"{{"cmd":"event","event":{{"content":{content},"event_id":"${number}","room_id":"{room}","sender":"{sender}","state_key":"{key}","type":"{kind}"}}}}"#
     ).expect(rt, "a state event's line")
 }
 
-fn message_line(rt: &impl Abort, alloc: Global, told: Told, number: usize) -> String {
+pub(super) fn message_line(rt: &impl Abort, alloc: Global, told: Told, number: usize) -> String {
     let Told(room, sender, kind, _, content) = told;
     format!(in alloc;
         r#"{{"cmd":"event","event":{{"content":{content},"event_id":"${number}","room_id":"{room}","sender":"{sender}","type":"{kind}"}}}}"#
@@ -193,7 +205,7 @@ static INVITED: [Row; 4] = [
     Row { name: "an invitation", events: &[A_JOINS, Told(R, A, MEMBER, Some(B), INVITE)], replies: &[(R, B, ONE), (R, A, NOTHING)] },
     Row { name: "a message to who is invited still", events: &[A_JOINS, Told(R, A, MEMBER, Some(B), INVITE), A_WRITES], replies: &[(R, B, ONE)] },
     Row { name: "an invitation by a remote user", events: &[REMOTE_JOINS, REMOTE_INVITES_B], replies: &[(R, B, ONE)] },
-    Row { name: "a ban after an invitation", events: &[REMOTE_JOINS, REMOTE_INVITES_B, Told(R, REMOTE, MEMBER, Some(B), r#"{"membership":"ban"}"#), Told(R, REMOTE, MESSAGE, None, HI)], replies: &[(R, B, ONE)] },
+    Row { name: "a ban after an invitation", events: &[REMOTE_JOINS, REMOTE_INVITES_B, Told(R, REMOTE, MEMBER, Some(B), r#"{"membership":"ban"}"#), Told(R, REMOTE, MESSAGE, None, HI)], replies: &[(R, B, NOTHING)] },
 ];
 
 #[rattlefmt::skip]

@@ -4,8 +4,8 @@ use Rattle.mx_room.specs.Change.{with_sets}
 use Rattle.mx_room.specs.Rooms.{PlannedRoom, is_local_member, room_at}
 use Rattle.mx_engine.proofs.judging.notified_users.Goals as goal
 
-pub notified_in-requires : goal.notified_in-requires
-notified_in-requires c =
+pub notified_in-requires-clause-listed : goal.notified_in-requires-clause-listed
+notified_in-requires-clause-listed c =
     let rooms = c.args.rooms.now.states in
     let members = c.local_members-members.ensures.members in
     record {

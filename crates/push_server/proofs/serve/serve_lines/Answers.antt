@@ -1,6 +1,6 @@
-use Rattle.std.proofs.Common.{Ok, Err, ◌∙◌, refl, ap, arith}
+use Rattle.std.proofs.Common.{Ok, Err, ◌∙◌, refl, ap, sym, arith}
 use Rattle.mx_lines.specs.Cutting.{Held}
-use Rattle.push_server.proofs.ServeLemmas.{HasTaken-nothing, HasTaken-more, Running-starts, Running-piece, HasLawfulRun-silent, HasLawfulRun-halted, HasLawfulRun-last, HasLawfulRun-failed, HasLawfulRun-limit, limit_reached}
+use Rattle.push_server.proofs.ServeLemmas.{HasTaken-nothing, HasTaken-more, Running-starts, Running-piece, HasLawfulRun-silent, HasLawfulRun-halted, HasLawfulRun-last, HasLawfulRun-failed, HasLawfulRun-limit, limit_reached, not_limit}
 use Rattle.push_server.proofs.serve.serve_lines.Goals as goal
 use Rattle.push_server.proofs.serve.serve_lines.Goals.{in-Ok-finish, in-Err-finish}
 
@@ -72,3 +72,6 @@ pub returns-clause-limit : goal.returns-clause-limit
 returns-clause-limit g c left left_told ended =
     limit_reached c.args.limit c.loop-left_of_limit.left_of_limit left _ _ left_told c.loop-left_of_limit-test.false
     c.loop-left_of_limit.invariant.taken
+
+pub returns-in-Err-clause-limit : goal.returns-in-Err-clause-limit
+returns-in-Err-clause-limit g c left left_told ended = absurd (not_limit c.in-Err.halt (sym c.status.ensures ∙ ended))

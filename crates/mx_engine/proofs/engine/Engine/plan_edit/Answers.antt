@@ -7,7 +7,7 @@ use Rattle.mx_engine.proofs.Shown.{content-edit, told-refused}
 use Rattle.mx_engine.proofs.engine.Engine.plan_edit.Goals as goal
 
 pub returns-in-Ok-clause-content : goal.returns-in-Ok-clause-content
-returns-in-Ok-clause-content c h is =
+returns-in-Ok-clause-content g c h is =
     let local : is_local c.args.self.now.server c.args.user.now ≡ true = search rules in
     let server = c.self.invariant.0 ∙ ap (λ (v : View). v.server) c.self.view_is in
     let edited = ap (λ (v : View). v.shown.rules) c.self.view_is in
@@ -18,7 +18,7 @@ returns-in-Ok-clause-content c h is =
     content-edit c.args.self.now.server h c.args.self.now.shown c.args.user.now c.args.edit.now None is local told
 
 pub returns-in-Err-Refused-clause-content : goal.returns-in-Err-Refused-clause-content
-returns-in-Err-Refused-clause-content c h is =
+returns-in-Err-Refused-clause-content g c h is =
     let local : is_local c.args.self.now.server c.args.user.now ≡ true = search rules in
     let server = c.self.invariant.0 ∙ ap (λ (v : View). v.server) c.self.view_is in
     let edited = ap (λ (v : View). v.shown.rules) c.self.view_is in

@@ -12,7 +12,7 @@ use Rattle.mx_engine.proofs.Shown.{content-found, refusal-shown}
 use Rattle.mx_engine.proofs.engine.Engine.prepare_event.Goals as goal
 
 pub returns-in-Some-clause-exact : goal.returns-in-Some-clause-exact
-returns-in-Some-clause-exact c h is =
+returns-in-Some-clause-exact g c h is =
     refusal-shown c.args.self.now.server h c.args.self.now.shown (Event c.args.event.now)
     (Some (KnownEvent c.in-Some.place.now.position)) c.self.inside.inputs (nat_le most_inputs c.self.inside.inputs) is
     (content-found c.args.self.now.server h c.args.self.now.shown c.self.inside.places.places c.args.event.now
@@ -21,7 +21,7 @@ returns-in-Some-clause-exact c h is =
     (ap (λ (v : View). v.shown.inputs) c.self.view_is) refl
 
 pub returns-then-self-ge-MOST_INPUTS-clause-exact : goal.returns-then-self-ge-MOST_INPUTS-clause-exact
-returns-then-self-ge-MOST_INPUTS-clause-exact c h is =
+returns-then-self-ge-MOST_INPUTS-clause-exact g c h is =
     refusal-shown c.args.self.now.server h c.args.self.now.shown (Event c.args.event.now) None
     c.self.inside.inputs true is
     (content-found c.args.self.now.server h c.args.self.now.shown c.self.inside.places.places c.args.event.now
@@ -30,7 +30,7 @@ returns-then-self-ge-MOST_INPUTS-clause-exact c h is =
     (ap (λ (v : View). v.shown.inputs) c.self.view_is) (grind (arith, nat_tests, c.if-self-ge-MOST_INPUTS.true))
 
 pub returns-clause-exact : goal.returns-clause-exact
-returns-clause-exact c h is =
+returns-clause-exact g c h is =
     refusal-shown c.args.self.now.server h c.args.self.now.shown (Event c.args.event.now) None
     c.self.inside.inputs false is
     (content-found c.args.self.now.server h c.args.self.now.shown c.self.inside.places.places c.args.event.now
@@ -39,7 +39,7 @@ returns-clause-exact c h is =
     (ap (λ (v : View). v.shown.inputs) c.self.view_is) (grind (arith, nat_tests, c.if-self-ge-MOST_INPUTS.false))
 
 pub returns-clause-made : goal.returns-clause-made
-returns-clause-made c =
+returns-clause-made g c =
     let plan : Planned = record {
       position = c.self-2.inside.inputs + 1;
       change = adds (event_planned c.in_ok-plan.plan);
@@ -52,7 +52,7 @@ returns-clause-made c =
     let places : now.shown.places ≡ c.self.inside.places.places =
     ap (λ (s : Snapshot). s.places) meaning ∙ sym (ap (λ (v : View). v.shown.places) c.self.view_is) in
     let id = c.in_ok-plan.ensures.planned.id ∙ sym c.event_id.ensures in
-    subst (λ (v : View). IsMadeFor v.server v.shown plan) (sym c.in_ok-plan.ensures.same)
+    subst (λ (s : Snapshot). IsMadeFor c.plan_event.new.self.server s plan) (sym c.in_ok-plan.ensures.meaning)
     (record {
       next = ap (λ n. n + 1) later;
       in_range = omega (arith, inputs, later, c.if-self-ge-MOST_INPUTS.false);
