@@ -1,5 +1,5 @@
 -- The canonical text is what a writer gives for the value's tokens.
-use Rattle.std.proofs.Common.{◌≡◌, ℕ, ℤ, pos, negsuc, Bool, true, false, List, [], ◌∷◌, ◌++◌, map, rules, refl, sym, ap, ap₂, ◌∙◌, append_assoc}
+use Rattle.std.proofs.Common.{◌≡◌, ℕ, ℤ, pos, negsuc, Bool, true, false, List, [], ◌∷◌, ◌++◌, map, codes, rules, refl, sym, ap, ap₂, ◌∙◌, append_assoc}
 use Rattle.std.specs.Fmt.{signed_decimal}
 use Rattle.std.specs.List.{join_with_byte}
 use Rattle.json.specs.Print.{print, quoted}
@@ -10,7 +10,7 @@ use Rattle.serde_json.proofs.Texts.{print-outline}
 use Rattle.mx_json.specs.declared.value.Json.{Json, Truth, List as ListOf, Object, the_lemmas}
 use Rattle.mx_json.specs.declared.value.JsonList.{JsonList}
 use Rattle.mx_json.specs.declared.value.JsonObject.{JsonObject}
-use Rattle.mx_json.specs.Canonical.{canonical, list_text, object_text, pair_text}
+use Rattle.mx_json.specs.Canonical.{canonical, comma, list_text, object_text, pair_text}
 use Rattle.mx_json.specs.Tokens.{data_of, items_data, pairs_data, tokens_of}
 use Rattle.mx_json.proofs.DataLemmas.{data_of-Null, data_of-Truth, data_of-Whole, data_of-Text, data_of-List, data_of-Object}
 use Rattle.mx_json.proofs.Induction.{Each, EachValue, every}
@@ -21,6 +21,29 @@ canonical-List list = search (rules, the_lemmas)
 
 pub canonical-Object : (whole : JsonObject) → canonical (Object whole) ≡ object_text record { pairs = map (with_value canonical) whole.pairs }
 canonical-Object whole = search (rules, the_lemmas)
+
+-- ---- an object's text, member by member
+
+-- the texts of an object's members after the first, and the brace that closes it
+abbrev pub object_rest : List (List ℕ × List ℕ) → List ℕ
+object_rest [] = codes "}"
+object_rest (pair ∷ pairs) = codes "," ++ (pair_text pair ++ object_rest pairs)
+
+closed : (pair : List ℕ × List ℕ) (pairs : List (List ℕ × List ℕ))
+    → join_with_byte comma (map pair_text (pair ∷ pairs)) ++ codes "}" ≡ pair_text pair ++ object_rest pairs
+closed pair [] = refl
+closed pair (next ∷ pairs) =
+    append_assoc (pair_text pair) (comma ∷ join_with_byte comma (map pair_text (next ∷ pairs))) (codes "}")
+    ∙ ap (λ text. pair_text pair ++ (comma ∷ text)) (closed next pairs)
+
+pub object-written : (pair : List ℕ × Json) (pairs : List (List ℕ × Json))
+    → canonical (Object record { pairs = pair ∷ pairs })
+    ≡ codes "{" ++ (pair_text (with_value canonical pair) ++ object_rest (map (with_value canonical) pairs))
+object-written pair pairs =
+    canonical-Object record { pairs = pair ∷ pairs }
+    ∙ ap (λ text. codes "{" ++ text) (closed (with_value canonical pair) (map (with_value canonical) pairs))
+
+-- ---- the same as a writer's
 
 pub number_text-of_integer : (n : ℤ) → number_text (of_integer n) ≡ signed_decimal n
 number_text-of_integer (pos n) = refl

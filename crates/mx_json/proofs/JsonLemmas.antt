@@ -123,6 +123,30 @@ is_valid-items list valid =
     let utf8 = sym (has_utf8-List list) ∙ parts.1 in
     each-valid list.items canonical utf8 (omega (arith, parts.2, depth_of-List list))
 
+-- the values of a valid object are valid
+each-value-valid : (pairs : List (List ℕ × Json))
+    → list_all (λ pair. pair.1) (map (with_value is_canonical) pairs) ≡ true
+    → list_all (λ pair. is_utf8 pair.0 && pair.1) (map (with_value has_utf8) pairs) ≡ true
+    → largest (map (λ pair. pair.1) (map (with_value depth_of) pairs)) ≤ 127
+    → list_all (λ pair. is_valid pair.1) pairs ≡ true
+each-value-valid [] canonical utf8 within = refl
+each-value-valid (pair ∷ pairs) canonical utf8 within =
+    let canonicals = and_parts (is_canonical pair.1) (list_all (λ p. p.1) (map (with_value is_canonical) pairs)) canonical in
+    let utf8s = and_parts (is_utf8 pair.0 && has_utf8 pair.1) (list_all (λ p. is_utf8 p.0 && p.1) (map (with_value has_utf8) pairs)) utf8 in
+    let here = and_parts (is_utf8 pair.0) (has_utf8 pair.1) utf8s.0 in
+    and_from (is_valid pair.1) (list_all (λ p. is_valid p.1) pairs)
+    (is_valid_from pair.1 canonicals.0 here.1 (omega arith))
+    (each-value-valid pairs canonicals.1 utf8s.1 (omega arith))
+
+pub is_valid-values : (object : JsonObject) → is_valid (Object object) ≡ true
+    → list_all (λ pair. is_valid pair.1) object.pairs ≡ true
+is_valid-values object valid =
+    let parts = is_valid_parts (Object object) valid in
+    let canonical = rw is_canonical-Object at parts.0 in
+    let utf8 = sym (has_utf8-Object object) ∙ parts.1 in
+    let each = and_parts (are_rising (map (λ pair. pair.0) (map (with_value is_canonical) object.pairs))) (list_all (λ pair. pair.1) (map (with_value is_canonical) object.pairs)) canonical in
+    each-value-valid object.pairs each.1 utf8 (omega (arith, parts.2, depth_of-Object object))
+
 -- a text is valid where it is UTF-8
 is_canonical-Text : (text : List ℕ) → is_canonical (Text text) ≡ true
 is_canonical-Text text = search (rules, the_lemmas)

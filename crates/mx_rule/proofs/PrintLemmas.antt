@@ -4,8 +4,8 @@ use Rattle.std.proofs.lemmas.List.{at_drop_more, at_drop_all, append-nil}
 use Rattle.std.specs.List.{join_with_byte}
 use Rattle.json.specs.Print.{escape_byte}
 use Rattle.mx_json.specs.declared.value.Json.{Json, Truth, Text, List as ListOf, Object, the_lemmas}
-use Rattle.mx_json.specs.Canonical.{canonical, comma, pair_text}
-use Rattle.mx_json.proofs.CanonicalLemmas.{canonical-List, canonical-Object}
+use Rattle.mx_json.specs.Canonical.{canonical, comma}
+use Rattle.mx_json.proofs.CanonicalLemmas.{canonical-List, object_rest, object-written}
 use Rattle.mx_json.proofs.JsonLemmas.{with_value}
 use Rattle.mx_rule.specs.declared.criterion.Criterion.{Criterion}
 use Rattle.mx_rule.specs.declared.criterion.Criterion.TheVariants.{Conditions, Word, InRoom, FromSender}
@@ -77,23 +77,6 @@ rest_of rule =
     ++ (pattern_text rule.criterion
     ++ (codes ",\"rule_id\":" ++ (canonical (Text rule.id) ++ codes "}")))))
 
--- the texts of an object's members after the first, and the brace that closes it
-abbrev members_text : List (List ℕ × List ℕ) → List ℕ
-members_text [] = codes "}"
-members_text (pair ∷ pairs) = codes "," ++ (pair_text pair ++ members_text pairs)
-
-closed : (pair : List ℕ × List ℕ) (pairs : List (List ℕ × List ℕ)) → join_with_byte comma (map pair_text (pair ∷ pairs)) ++ codes "}" ≡ pair_text pair ++ members_text pairs
-closed pair [] = refl
-closed pair (next ∷ pairs) =
-    append_assoc (pair_text pair) (comma ∷ join_with_byte comma (map pair_text (next ∷ pairs))) (codes "}")
-    ∙ ap (λ text. pair_text pair ++ (comma ∷ text)) (closed next pairs)
-
-object-written : (pair : List ℕ × Json) (pairs : List (List ℕ × Json))
-    → canonical (Object record { pairs = pair ∷ pairs }) ≡ codes "{" ++ (pair_text (with_value canonical pair) ++ members_text (map (with_value canonical) pairs))
-object-written pair pairs =
-    canonical-Object record { pairs = pair ∷ pairs }
-    ∙ ap (λ text. codes "{" ++ text) (closed (with_value canonical pair) (map (with_value canonical) pairs))
-
 -- the members after the actions
 abbrev pairs_after : PushRule → List (List ℕ × Json)
 pairs_after rule =
@@ -105,7 +88,7 @@ pairs_after rule =
 
 rest-written : (id : List ℕ) (predefined enabled : Bool) (actions : List Json) (criterion : Criterion)
     → let rule : PushRule = record { id = id; predefined = predefined; enabled = enabled; actions = actions; criterion = criterion } in
-    members_text (map (with_value canonical) (pairs_after rule)) ≡ rest_of rule
+    object_rest (map (with_value canonical) (pairs_after rule)) ≡ rest_of rule
 unfolding escape_byte
 rest-written id predefined enabled actions (Conditions conditions) = refl
 rest-written id predefined enabled actions (Word pattern) = refl
