@@ -1,3 +1,5 @@
+pub mod AutomatonLemmas
+pub mod FallLemmas
 pub mod FoldedLemmas
 pub mod GlobLemmas
 pub mod LeadsLemmas

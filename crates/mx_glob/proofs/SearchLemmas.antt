@@ -1,8 +1,10 @@
 -- The search for a name: what a character at the end of a place rules out.
-use Rattle.std.proofs.Common.{◌≡◌, ℕ, zero, suc, ◌+◌, ◌-◌, ◌%◌, ◌<◌, ◌≤◌, List, [], ◌∷◌, length, take, drop, replicate, slice_get, slice_index, slice_range, Some, max, inl, inr, refl, sym, ap, ◌∙◌, subst, arith}
+use Rattle.std.proofs.Common.{◌≡◌, ℕ, zero, suc, ◌+◌, ◌-◌, ◌%◌, ◌<◌, ◌≤◌, List, [], ◌∷◌, length, take, drop, replicate, slice_get, slice_index, slice_range, get_or, true, Option, Some, None, IsTrue, is_some, ◌↔◌, inl, inr, refl, sym, ap, ◌∙◌, subst, arith}
 use Rattle.std.proofs.lemmas.Bool.{cases_lt}
-use Rattle.std.proofs.lemmas.List.{get_or-replicate}
-use Rattle.mx_glob.specs.Leads.{IsNameAt}
+use Rattle.std.proofs.lemmas.List.{get_or-replicate, ext_get_or}
+use Rattle.std.proofs.lemmas.Option.{slice_get-get_or, get_or_from_slice_get}
+use Rattle.mx_glob.specs.Automaton.{StandsAt, IsEdged}
+use Rattle.mx_glob.specs.Leads.{IsNameAt, IsFirstFrom}
 use Rattle.mx_glob.specs.Search.{AreSkips, NoneEnds}
 use Rattle.mx_glob.specs.Words.{IsWordAt, HasWord}
 use Rattle.mx_glob.proofs.MatchLemmas.{length-range}
@@ -64,12 +66,48 @@ HasWord-none text name past some room none found =
 pub same_skips : (skips : List ℕ) (most i : ℕ) → skips ≡ replicate 64 most → i < 64 → slice_index skips i ≡ most
 same_skips skips most i e h = ap (λ s. slice_index s i) e ∙ get_or-replicate 64 i most 0 h
 
--- all that a step has ruled out: up to its end, and from there by what was tried there and by the skip
-pub step_rules_out : (text name : List ℕ) (from end steps skip most : ℕ) → NoneEnds text name 0 from → NoneEnds text name from end → 1 ≤ steps → NoneEnds text name end (end + steps) → NoneEnds text name (end + 1) (end + skip) → most ≡ max steps skip → NoneEnds text name 0 (end + most)
-step_rules_out text name from end steps skip most before between some tried skipped e =
-    NoneEnds-join text name 0 end (end + most) (NoneEnds-join text name 0 from end before between) (
+-- all that a step has ruled out: up to its end, there, and by the skip
+pub step_rules_out : (text name : List ℕ) (from end skip place : ℕ) → 0 < length name → place + length name ≡ end + 1 → NoneEnds text name 0 from → NoneEnds text name from end → (IsNameAt text name place → ⊥) → NoneEnds text name (end + 1) (end + skip) → NoneEnds text name 0 (end + skip)
+step_rules_out text name from end skip place some there before between here skipped =
+    NoneEnds-join text name 0 end (end + skip) (NoneEnds-join text name 0 from end before between) (
     λ j on past at_j.
-    elim (cases_lt (j + (length name - 1)) (end + steps)) [
-      | inl near ↦ tried j on near at_j
-      | inr far ↦ skipped j (omega arith) (omega arith) at_j
+    elim (cases_lt end (j + (length name - 1))) [
+      | inl far ↦ skipped j (omega arith) past at_j
+      | inr near ↦ let at_place : j ≡ place = omega arith in here (subst (IsNameAt text name) at_place at_j)
     ])
+
+pub stands_same : (text name : List ℕ) (k : ℕ) → k + length name ≤ length text → StandsAt text name (length name) k → slice_range text k (k + length name) ≡ name
+stands_same text name k room stands =
+    let long : length (slice_range text k (k + length name)) ≡ length name = let e = length-range text k (k + length name) (omega arith) room in omega (arith, e) in
+    ext_get_or 0 (slice_range text k (k + length name)) name long (
+    λ i h.
+    let small : i < length name = omega (arith, long) in
+    let inner : i < k + length name - k = omega arith in
+    let same : slice_get (slice_range text k (k + length name)) i ≡ slice_get name i = slice_get-take (drop k text) (k + length name - k) i inner ∙ slice_get-drop text k i ∙ stands i small in
+    get_or_from_slice_get (slice_range text k (k + length name)) i (get_or name i 0) 0 (same ∙ slice_get-get_or name i 0 small))
+
+pub IsEdged-from_name : (text name : List ℕ) (k : ℕ) → IsNameAt text name k → IsEdged text name true true k
+IsEdged-from_name text name k here = record {
+  in_text = here.word.in_text;
+  stands = λ i h. sym (IsNameAt-character text name k i here h);
+  begins_word = λ _. here.word.begins;
+  ends_word = λ _. here.word.ends;
+}
+
+HasWord-from_edged : (text name : List ℕ) (k : ℕ) → IsEdged text name true true k → HasWord name text
+HasWord-from_edged text name k edged =
+    let word : IsWordAt text k (k + length name) = record { in_order = omega arith; in_text = edged.in_text; begins = edged.begins_word refl; ends = edged.ends_word refl } in
+    (k, k + length name, word, stands_same text name k edged.in_text edged.stands)
+
+-- a search from a place before which there is none
+pub HasWord-found : (text name : List ℕ) (place : ℕ) (found : Option ℕ) → ((j : ℕ) → j < place → IsNameAt text name j → ⊥) → IsFirstFrom (IsEdged text name true true) place found → IsTrue (is_some found) ↔ HasWord name text
+HasWord-found text name place None none first = (
+  λ never. cc,
+  λ word.
+      let there = HasWord-name text name word in
+      elim (cases_lt there.0 place) [
+        | inl before ↦ absurd (none there.0 before there.2)
+        | inr later ↦ absurd (first there.0 later (IsEdged-from_name text name there.0 there.2))
+      ],
+)
+HasWord-found text name place (Some k) none first = (λ yes. HasWord-from_edged text name k first.1, λ word. refl)

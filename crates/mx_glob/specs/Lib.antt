@@ -1,3 +1,4 @@
+pub mod Automaton
 pub mod FoldedPattern
 pub mod Glob
 pub mod Leads

@@ -1,6 +1,7 @@
 ghost use Rattle.std.specs.Prelude.{◌≡◌, ◌+◌, ◌*◌, ◌≤◌, ◌↔◌, length, IfOk, IsTrue};
 ghost use Rattle.mx_json.specs.Gives.{Gives};
 ghost use Rattle.mx_json.specs.Folded.{folded, RisesAtMost};
+ghost use Rattle.mx_glob.specs.Automaton.{IsExact};
 ghost use Rattle.mx_glob.specs.Glob.{Matches};
 ghost use Rattle.mx_glob.specs.FoldedPattern.{folded_pattern};
 ghost use Rattle.mx_glob.specs.Words.{WordMatches};
@@ -69,31 +70,35 @@ impl Glob {
     }
 
     /// Whether the glob matches the whole value. It takes no memory. With p characters of the
-    /// folded pattern and v of the value it reads at most (p + 1)(v + 1) characters: each call of
-    /// `Folded::at` on the value counts, and the pattern is read once, into the scratch. A pattern
-    /// without `*` and `?` isn't copied: there each call of `Folded::at` on it counts too.
+    /// folded pattern and v of the value it reads at most (p + 1)(v + 1) characters, and at most
+    /// 2(v + 1) + p where the pattern has no `?`: each call of `Folded::at` on the value counts, and
+    /// the pattern is read once, into the scratch. A pattern without `*` and `?` isn't copied: there
+    /// each call of `Folded::at` on it counts too.
     pub fn whole(&self, value: &Folded, scratch: &mut Scratch, meter: &mut Meter) -> bool
         ensures matches { IsTrue result ↔ Matches self.now value.now }
         ensures reads { RisesAtMost
             ((length self.now + 1) * (length value.now + 1))
             meter.old
             meter.new }
+        ensures exact_reads { IsExact self.now
+            → RisesAtMost (2 * (length value.now + 1) + length self.now) meter.old meter.new }
     {
         self.whole_in(value, &mut scratch.held, meter)
     }
 
     /// Whether the glob matches a word of the value: some part of it, the empty one included, with
     /// no character of `A-Z a-z 0-9 _` just before and just after. It takes no memory. With p
-    /// characters of the folded pattern and v of the value it reads at most (p + 1)(v + 1): each
-    /// call of `Folded::at` on the value counts, and the pattern is read once, into the scratch. A
-    /// pattern without `*` and `?` that begins inside a word isn't copied: there each call of
-    /// `Folded::at` on it counts too.
+    /// characters of the folded pattern and v of the value it reads at most (p + 1)(v + 1), and at
+    /// most 2(v + 1) + p where the pattern has no `?`: each call of `Folded::at` on the value counts,
+    /// and the pattern is read once, into the scratch.
     pub fn word(&self, value: &Folded, scratch: &mut Scratch, meter: &mut Meter) -> bool
         ensures matches { IsTrue result ↔ WordMatches self.now value.now }
         ensures reads { RisesAtMost
             ((length self.now + 1) * (length value.now + 1))
             meter.old
             meter.new }
+        ensures exact_reads { IsExact self.now
+            → RisesAtMost (2 * (length value.now + 1) + length self.now) meter.old meter.new }
     {
         self.word_in(value, &mut scratch.held, meter)
     }
@@ -113,6 +118,11 @@ impl Glob {
             (λ matches. IsTrue matches ↔ Matches self.now (folded text.now)) }
         ensures reads { RisesAtMost
             ((length self.now + 1) * (length (folded text.now) + 1))
+            meter.old
+            meter.new }
+        ensures exact_reads { IsExact self.now
+            → RisesAtMost
+            (2 * (length (folded text.now) + 1) + length self.now)
             meter.old
             meter.new }
     {
@@ -137,6 +147,11 @@ impl Glob {
             ((length self.now + 1) * (length (folded text.now) + 1))
             meter.old
             meter.new }
+        ensures exact_reads { IsExact self.now
+            → RisesAtMost
+            (2 * (length (folded text.now) + 1) + length self.now)
+            meter.old
+            meter.new }
     {
         scratch.texts.ask(text)?;
         Ok(self.word_in(scratch.texts.folding(), &mut scratch.held, meter))
@@ -148,12 +163,15 @@ impl Glob {
             ((length self.now + 1) * (length value.now + 1))
             meter.old
             meter.new }
+        ensures exact_reads { IsExact self.now
+            → RisesAtMost (2 * (length value.now + 1) + length self.now) meter.old meter.new }
     {
         if self.is_literal {
             return equals(&self.pattern, value, meter);
         }
         held.hold(&self.pattern, meter);
-        whole_of(held.held(self.pattern.len()), value, meter)
+        let pattern = &held.characters[..self.pattern.len()];
+        whole_of(pattern, held.falls.as_mut_slice(), value, meter)
     }
 
     fn word_in(&self, value: &Folded, held: &mut Held, meter: &mut Meter) -> bool
@@ -162,12 +180,15 @@ impl Glob {
             ((length self.now + 1) * (length value.now + 1))
             meter.old
             meter.new }
+        ensures exact_reads { IsExact self.now
+            → RisesAtMost (2 * (length value.now + 1) + length self.now) meter.old meter.new }
     {
-        if self.is_name {
-            return has_word(&self.pattern, value, meter);
-        }
         held.hold(&self.pattern, meter);
-        word_of(held.held(self.pattern.len()), value, meter)
+        let pattern = &held.characters[..self.pattern.len()];
+        if self.is_name {
+            return has_word(pattern, held.falls.as_mut_slice(), value, meter);
+        }
+        word_of(pattern, held.falls.as_mut_slice(), value, meter)
     }
 }
 
@@ -178,6 +199,7 @@ fn equals(pattern: &Folded, value: &Folded, meter: &mut Meter) -> bool
         ((length pattern.now + 1) * (length value.now + 1))
         meter.old
         meter.new }
+    ensures exact_reads { RisesAtMost (2 * length value.now) meter.old meter.new }
 {
     if pattern.len() != value.len() {
         return false;
@@ -191,12 +213,16 @@ fn equals(pattern: &Folded, value: &Folded, meter: &mut Meter) -> bool
 }
 
 /// Whether the pattern matches the whole value.
-fn whole_of(pattern: &[char], value: &Folded, meter: &mut Meter) -> bool
+fn whole_of(pattern: &[char], falls: &mut [usize], value: &Folded, meter: &mut Meter) -> bool
+    requires room { length pattern.now ≤ length falls.old }
     ensures matches { IsTrue result ↔ Matches pattern.now value.now }
     ensures reads { RisesAtMost
         ((length pattern.now + 1) * length value.now + 1)
         meter.old
         meter.new }
+    ensures exact_reads { IsExact pattern.now
+        → RisesAtMost (2 * length value.now + 1) meter.old meter.new }
+    ensures same_room { length falls.new ≡ length falls.old }
 {
     let Some((first, rest)) = split_star(pattern) else {
         if pattern.len() != value.len() {
@@ -210,25 +236,29 @@ fn whole_of(pattern: &[char], value: &Folded, meter: &mut Meter) -> bool
     if !agrees(first, value, 0, meter) {
         return false;
     }
-    leads_on(rest, value, first.len(), End::Text, meter)
+    leads_on(rest, falls, value, first.len(), End::Text, meter)
 }
 
 /// Whether the pattern matches a word of the value.
-fn word_of(pattern: &[char], value: &Folded, meter: &mut Meter) -> bool
+fn word_of(pattern: &[char], falls: &mut [usize], value: &Folded, meter: &mut Meter) -> bool
+    requires room { length pattern.now ≤ length falls.old }
     ensures matches { IsTrue result ↔ WordMatches pattern.now value.now }
     ensures reads { RisesAtMost
         ((length pattern.now + 1) * length value.now + 1)
         meter.old
         meter.new }
+    ensures exact_reads { IsExact pattern.now
+        → RisesAtMost (2 * length value.now + 2) meter.old meter.new }
+    ensures same_room { length falls.new ≡ length falls.old }
 {
     let Some((first, rest)) = split_star(pattern) else {
-        return find_word(pattern, value, true, meter).is_some();
+        return find_word(pattern, falls, value, true, meter).is_some();
     };
     if first.is_empty() {
-        return leads_on(rest, value, 0, End::Word, meter);
+        return leads_on(rest, falls, value, 0, End::Word, meter);
     }
-    match find_word(first, value, false, meter) {
+    match find_word(first, falls, value, false, meter) {
         None => false,
-        Some(place) => leads_on(rest, value, place + first.len(), End::Word, meter),
+        Some(place) => leads_on(rest, falls, value, place + first.len(), End::Word, meter),
     }
 }

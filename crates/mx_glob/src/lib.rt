@@ -8,8 +8,10 @@
 #![tactic(auto)]
 
 mod error;
+mod fall;
 mod glob;
 mod held;
+mod onward;
 mod place;
 mod recent;
 mod rest;

@@ -1,9 +1,11 @@
 ghost use Rattle.std.specs.Prelude.{◌≡◌, ℕ, ◌+◌, ◌-◌, ◌*◌, ◌^◌, ◌<◌, ◌≤◌, ◌↔◌, ◌∷◌, ◌++◌, length, IfNone, IfSome, IsTrue};
 ghost use Rattle.mx_json.specs.Folded.{RisesAtMost};
+ghost use Rattle.mx_glob.specs.Automaton.{IsExact};
 ghost use Rattle.mx_glob.specs.Glob.{star};
 ghost use Rattle.mx_glob.specs.Leads.{IsPlain, LeadsOn, ends_at, IsEndPlace};
 ghost use Rattle.mx_glob.specs.declared.rest.End.TheVariants.{Text, Word};
 
+use crate::onward::{Wanted, find_onward};
 use crate::place::{agrees, find};
 use crate::word::is_outside;
 use mx_json::{Folded, Meter};
@@ -32,22 +34,27 @@ pub(crate) fn split_star(pattern: &[char]) -> Option<(&[char], &[char])>
 /// Whether what stands after a star leads from `from` on to an end.
 pub(crate) fn leads_on(
     pattern: &[char],
+    falls: &mut [usize],
     value: &Folded,
     from: usize,
     end: End,
     meter: &mut Meter,
 ) -> bool
-    requires { from ≤ length value.now }
+    requires room { length pattern.now ≤ length falls.old }
+    requires in_text { from ≤ length value.now }
     ensures value { IsTrue result ↔ LeadsOn (ends_at end value.now) value.now pattern.now from }
     ensures reads { RisesAtMost
         ((length pattern.now + 1) * (length value.now - from) + 1)
         meter.old
         meter.new }
+    ensures exact_reads { IsExact pattern.now
+        → RisesAtMost (2 * (length value.now - from) + 1) meter.old meter.new }
+    ensures same_room { length falls.new ≡ length falls.old }
 {
     let mut rest = pattern;
     let mut reached = from;
     while let Some((segment, after)) = split_star(rest) {
-        match find(segment, value, reached, meter) {
+        match find(segment, falls, value, reached, meter) {
             None => return false,
             Some(place) => reached = place + segment.len(),
         }
@@ -55,7 +62,7 @@ pub(crate) fn leads_on(
     }
     match end {
         End::Text => ends_text(rest, value, reached, meter),
-        End::Word => ends_word(rest, value, reached, meter),
+        End::Word => ends_word(rest, falls, value, reached, meter),
     }
 }
 
@@ -73,7 +80,14 @@ fn ends_text(segment: &[char], value: &Folded, from: usize, meter: &mut Meter) -
 }
 
 /// Whether the segment ends a word, at some place from `from` on.
-fn ends_word(segment: &[char], value: &Folded, from: usize, meter: &mut Meter) -> bool
+fn ends_word(
+    segment: &[char],
+    falls: &mut [usize],
+    value: &Folded,
+    from: usize,
+    meter: &mut Meter,
+) -> bool
+    requires room { length segment.now ≤ length falls.old }
     requires plain { IsPlain segment.now }
     requires in_text { from ≤ length value.now }
     ensures value { IsTrue result ↔ LeadsOn (ends_at Word value.now) value.now segment.now from }
@@ -81,10 +95,29 @@ fn ends_word(segment: &[char], value: &Folded, from: usize, meter: &mut Meter) -
         ((length segment.now + 1) * (length value.now - from) + 1)
         meter.old
         meter.new }
+    ensures exact_reads { IsExact segment.now
+        → RisesAtMost (2 * (length value.now - from) + 1) meter.old meter.new }
+    ensures same_room { length falls.new ≡ length falls.old }
 {
     if segment.len() > value.len() - from {
         return false;
     }
+    match Wanted::of(segment, false, true) {
+        Some(wanted) => find_onward(&wanted, falls, value, from, None, meter).is_some(),
+        None => ends_word_tried(segment, value, from, meter),
+    }
+}
+
+/// The same, each place tried.
+fn ends_word_tried(segment: &[char], value: &Folded, from: usize, meter: &mut Meter) -> bool
+    requires plain { IsPlain segment.now }
+    requires in_text { from + length segment.now ≤ length value.now }
+    ensures value { IsTrue result ↔ LeadsOn (ends_at Word value.now) value.now segment.now from }
+    ensures reads { RisesAtMost
+        ((length segment.now + 1) * (length value.now - from) + 1)
+        meter.old
+        meter.new }
+{
     let last = value.len() - segment.len();
     let mut place = from;
     while place <= last {

@@ -1,5 +1,4 @@
 ghost use Rattle.std.specs.Prelude.{◌≡◌, ◌-◌, ◌%◌, ◌<◌, ◌==◌, false, length, replicate, slice_get, IsTrue, IfSome};
-ghost use Rattle.mx_json.specs.Folded.{RisesAtMost};
 ghost use Rattle.mx_glob.specs.Glob.{star, question};
 ghost use Rattle.mx_glob.specs.Search.{AreSkips, IsLiteral};
 ghost use Rattle.mx_glob.specs.Words.{is_outside};
@@ -38,18 +37,15 @@ fn is_itself(character: Option<char>) -> bool
     }
 }
 
-/// The skips of a search for the name; its last character isn't read.
-pub(crate) fn skips_of(name: &Folded, meter: &mut Meter) -> [u8; 64]
+/// The skips of a search for the name.
+pub(crate) fn skips_of(name: &[char]) -> [u8; 64]
     requires { 0 < length name.now }
-    ensures skips { AreSkips name.now result }
-    ensures reads { RisesAtMost (length name.now - 1) meter.old meter.new }
+    ensures { AreSkips name.now result }
 {
     let end = name.len() - 1;
     let mut skips = all_skip(name.len().min(255) as u8);
     for k in 0..end {
-        if let Some(character) = name.at(k, meter) {
-            skips[class_of(character)] = (end - k).min(255) as u8;
-        }
+        skips[class_of(name[k])] = (end - k).min(255) as u8;
     }
     skips
 }

@@ -1,5 +1,7 @@
 use Rattle.std.proofs.Common.{ℕ, List, ◌∙◌, IsTrue, arith, subst, sym}
-use Rattle.mx_glob.specs.Glob.{Matches}
+use Rattle.mx_glob.specs.Automaton.{IsExact}
+use Rattle.mx_glob.specs.Glob.{star, Matches}
+use Rattle.mx_glob.proofs.AutomatonLemmas.{IsExact-parts}
 use Rattle.mx_glob.proofs.SegmentLemmas.{FitsAt-in_text}
 use Rattle.mx_glob.proofs.GlobLemmas.{Matches-plain, Matches-starred}
 use Rattle.mx_glob.proofs.glob.whole_of.Goals as goal
@@ -45,3 +47,11 @@ returns-clause-matches c =
       λ yes. subst family (sym parts.1) (same.1 (c.agrees-2.ensures.value.0 c.if-not-agrees.false, c.leads_on.ensures.value.0 yes)),
       λ matched. c.leads_on.ensures.value.1 (same.0 (subst family parts.1 matched)).1,
     )
+
+pub returns-clause-exact_reads : goal.returns-clause-exact_reads
+returns-clause-exact_reads c =
+    λ exact.
+    let parts = (c.in-Some.ensures {u = tt}).parts in
+    let both = IsExact-parts c.in-Some.first.now star c.in-Some.rest.now (subst IsExact parts.1 exact) in
+    let reads = c.leads_on.ensures.exact_reads both.1 in
+    (omega (arith, reads, c.agrees-2.ensures.reads), omega (arith, reads, c.agrees-2.ensures.reads))

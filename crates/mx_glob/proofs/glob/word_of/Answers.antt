@@ -1,8 +1,10 @@
 use Rattle.std.proofs.Common.{◌≡◌, ℕ, ◌+◌, ◌-◌, ◌*◌, List, suc, ◌∷◌, ◌++◌, ◌∙◌, true, length, length-append, arith, ap, subst, sym}
 use Rattle.mx_glob.specs.Glob.{star}
+use Rattle.mx_glob.specs.Automaton.{IsExact}
 use Rattle.mx_glob.specs.Leads.{IsWordPlace}
 use Rattle.mx_glob.specs.Words.{WordMatches}
 use Rattle.mx_glob.proofs.GlobLemmas.{WordMatches-plain, WordMatches-starred, WordMatches-star, WordMatches-nowhere, IsSome-first, nil_from_test, not_nil_from_test}
+use Rattle.mx_glob.proofs.AutomatonLemmas.{IsExact-parts}
 use Rattle.mx_glob.proofs.ReadLemmas.{starred_word}
 use Rattle.mx_glob.proofs.glob.word_of.Goals as goal
 
@@ -47,7 +49,34 @@ returns-in-Some-find_word-clause-reads c =
     let room = found.first.1.place.in_text in
     let some = not_nil_from_test c.in-Some.first.now (sym c.is_empty.ensures ∙ c.if-is_empty.false) in
     let bound = starred_word (length c.in-Some.first.now) (length c.in-Some.rest.now) (length c.args.value.now) c.in-Some-find_word.place some room in
-    let steps : c.in-Some-find_word.place + 1 - 0 ≡ c.in-Some-find_word.place + 1 = omega arith in
+    let steps : c.in-Some-find_word.place + length c.in-Some.first.now - 0 ≡ c.in-Some-find_word.place + length c.in-Some.first.now = omega arith in
     let tried = ap (λ t. (length c.in-Some.first.now + 1) * t) steps in
     let product = ap (λ p. (p + 1) * length c.args.value.now) long in
     (omega (arith, found.reads, c.leads_on-in-Some-find_word.ensures.reads), omega (arith, found.reads, c.leads_on-in-Some-find_word.ensures.reads))
+
+pub returns-then-is_empty-clause-exact_reads : goal.returns-then-is_empty-clause-exact_reads
+returns-then-is_empty-clause-exact_reads c =
+    λ exact.
+    let parts = (c.in-Some.ensures {u = tt}).parts in
+    let both = IsExact-parts c.in-Some.first.now star c.in-Some.rest.now (subst IsExact parts.1 exact) in
+    let reads = c.leads_on.ensures.exact_reads both.1 in
+    (omega (arith, reads), omega (arith, reads))
+
+pub returns-in-None-clause-exact_reads : goal.returns-in-None-clause-exact_reads
+returns-in-None-clause-exact_reads c =
+    λ exact.
+    let parts = (c.in-Some.ensures {u = tt}).parts in
+    let both = IsExact-parts c.in-Some.first.now star c.in-Some.rest.now (subst IsExact parts.1 exact) in
+    let reads = (c.in-None.ensures {u = tt}).exact_reads both.0 in
+    (omega (arith, reads), omega (arith, reads))
+
+pub returns-in-Some-find_word-clause-exact_reads : goal.returns-in-Some-find_word-clause-exact_reads
+returns-in-Some-find_word-clause-exact_reads c =
+    λ exact.
+    let parts = (c.in-Some.ensures {u = tt}).parts in
+    let both = IsExact-parts c.in-Some.first.now star c.in-Some.rest.now (subst IsExact parts.1 exact) in
+    let found = (c.in-Some-find_word.ensures {u = tt}) in
+    let room = found.first.1.place.in_text in
+    let reads = found.exact_reads both.0 in
+    let after = c.leads_on-in-Some-find_word.ensures.exact_reads both.1 in
+    (omega (arith, reads, after), omega (arith, reads, after))

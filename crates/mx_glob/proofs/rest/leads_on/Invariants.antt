@@ -1,5 +1,6 @@
-use Rattle.std.proofs.Common.{◌+◌, ◌-◌, ◌*◌, ◌≤◌, ◌↔◌, length}
+use Rattle.std.proofs.Common.{◌≡◌, ◌+◌, ◌-◌, ◌*◌, ◌≤◌, ◌↔◌, length}
 use Rattle.mx_json.specs.Folded.{RisesAtMost}
+use Rattle.mx_glob.specs.Automaton.{IsExact}
 use Rattle.mx_glob.specs.Leads.{LeadsOn, ends_at}
 use Rattle.mx_glob.proofs.rest.leads_on.Given as goal
 
@@ -10,6 +11,8 @@ invariant-loop-segment l =
     × (length l.rest ≤ length l.pattern)
     × (LeadsOn (ends_at l.end l.value) l.value l.pattern l.from ↔ LeadsOn (ends_at l.end l.value) l.value l.rest l.reached)
     × RisesAtMost ((length l.pattern + 1) * (l.reached - l.from)) l.initial.meter l.meter
+    × (IsExact l.pattern → IsExact l.rest × RisesAtMost (2 * (l.reached - l.from)) l.initial.meter l.meter)
+    × (length l.falls ≡ length l.initial.falls)
 
 abbrev pub decreases-loop-segment : goal.decreases-loop-segment
 decreases-loop-segment l = length l.rest

@@ -1,5 +1,4 @@
 use Rattle.std.proofs.Common.{◌≡◌, ◌+◌, ◌%◌, ℕ, ◌<◌, ◌≤◌, length, slice_get, slice_index, Some}
-use Rattle.mx_json.specs.Folded.{RisesAtMost}
 use Rattle.mx_glob.proofs.skips.skips_of.Given as goal
 
 abbrev pub invariant-loop-k : goal.invariant-loop-k
@@ -8,4 +7,3 @@ invariant-loop-k l =
     × ((i : ℕ) → i < 64 → 1 ≤ slice_index l.skips i)
     × ((i : ℕ) → i < 64 → slice_index l.skips i ≤ length l.name)
     × ((j c : ℕ) → j < l.k → slice_get l.name j ≡ Some c → slice_index l.skips (c % 64) + j + 1 ≤ length l.name)
-    × RisesAtMost l.k l.initial.meter l.meter

@@ -1,0 +1,47 @@
+ghost use Rattle.std.specs.Prelude.{◌≡◌, ◌<◌, ◌≤◌, ◌↔◌, length, slice_get, Some, IsTrue};
+ghost use Rattle.mx_glob.specs.Automaton.{AreFalls, IsNext};
+
+/// Fills the table of falls of a segment: for each of its beginnings, from that of one character on,
+/// how long the longest shorter beginning is with which it ends.
+pub(crate) fn make_falls(segment: &[char], falls: &mut [usize])
+    requires some { 0 < length segment.now }
+    requires room { length segment.now ≤ length falls.old }
+    ensures falls { AreFalls segment.now falls.new (length segment.now) }
+    ensures same_room { length falls.new ≡ length falls.old }
+{
+    falls[0] = 0;
+    for k in 1..segment.len() {
+        falls[k] = next_state(segment, falls, falls[k - 1], segment[k]);
+    }
+}
+
+/// With how many characters of the segment a text ends that ended with `state` of them and has one
+/// more character: as many as there can be.
+pub(crate) fn next_state(segment: &[char], falls: &[usize], state: usize, here: char) -> usize
+    requires within { state ≤ length segment.now }
+    requires room { length segment.now ≤ length falls.now }
+    requires known { AreFalls segment.now falls.now state }
+    ensures { IsNext segment.now state here result }
+{
+    let mut shorter = state;
+    loop {
+        if goes_on(segment, shorter, here) {
+            return shorter + 1;
+        }
+        if shorter == 0 {
+            return 0;
+        }
+        shorter = falls[shorter - 1];
+    }
+}
+
+/// Whether the segment goes on with this character after so many.
+#[inline]
+pub(crate) fn goes_on(segment: &[char], state: usize, here: char) -> bool
+    ensures { IsTrue result ↔ (slice_get segment.now state ≡ Some here) }
+{
+    match segment.get(state) {
+        Some(next) => *next == here,
+        None => false,
+    }
+}
