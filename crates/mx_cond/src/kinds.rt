@@ -10,7 +10,8 @@ ghost use Rattle.mx_cond.specs.declared.wanted.Wanted.TheVariants.{EventMatch, E
 use crate::count::count_asked;
 use crate::error::ConditionError;
 use crate::plain::Plain;
-use crate::text_path::TextPath;
+use crate::property_path::PropertyPath;
+use crate::text_pattern::TextPattern;
 use crate::wanted::Wanted;
 use mx_glob::{Glob, GlobError};
 use mx_json::{Json, JsonText, Path};
@@ -50,8 +51,8 @@ fn event_match(alloc: Global, json: &Json) -> Result<Wanted, ConditionError>
         (or_bad (with_both EventMatch (path_in json.now) (pattern_in json.now))) }
 {
     let path = path_in(alloc, json)?;
-    let glob = pattern_in(alloc, json)?;
-    Ok(Wanted::EventMatch(TextPath::new(path), glob))
+    let pattern = pattern_in(alloc, json)?;
+    Ok(Wanted::EventMatch(path, pattern))
 }
 
 fn event_property_is(alloc: Global, json: &Json) -> Result<Wanted, ConditionError>
@@ -96,17 +97,17 @@ fn sender_notification_permission(alloc: Global, json: &Json) -> Result<Wanted, 
     }
 }
 
-fn path_in(alloc: Global, json: &Json) -> Result<Path, ConditionError>
+fn path_in(alloc: Global, json: &Json) -> Result<PropertyPath, ConditionError>
     requires { is_valid json.now ≡ true }
     ensures { Gives ConditionError.OutOfMemory result (or_bad (path_in json.now)) }
 {
     match json.text_at("key") {
-        Some(key) => Ok(Path::read(alloc, key)?),
+        Some(key) => Ok(PropertyPath::new(Path::read(alloc, key)?)),
         None => Err(ConditionError::BadCondition),
     }
 }
 
-fn pattern_in(alloc: Global, json: &Json) -> Result<Glob, ConditionError>
+fn pattern_in(alloc: Global, json: &Json) -> Result<TextPattern, ConditionError>
     requires { is_valid json.now ≡ true }
     ensures { Gives ConditionError.OutOfMemory result (or_bad (pattern_in json.now)) }
 {
@@ -114,7 +115,7 @@ fn pattern_in(alloc: Global, json: &Json) -> Result<Glob, ConditionError>
         return Err(ConditionError::BadCondition);
     };
     match Glob::read(alloc, pattern) {
-        Ok(glob) => Ok(glob),
+        Ok(glob) => Ok(TextPattern::new(alloc, glob, pattern)?),
         Err(GlobError::PatternTooLong) => Err(ConditionError::BadCondition),
         Err(GlobError::OutOfMemory) => Err(ConditionError::OutOfMemory),
     }

@@ -12,11 +12,12 @@ mod facts;
 mod kinds;
 mod plain;
 mod power;
-mod text_path;
+mod property_path;
+mod text_pattern;
 mod wanted;
 
 pub use condition::Condition;
 pub use error::ConditionError;
 pub use facts::Facts;
 pub use power::PowerTable;
-pub use text_path::body_of;
+pub use property_path::body_of;

@@ -7,18 +7,19 @@ ghost use Rattle.mx_cond.specs.MemberCount.{IsAsAsked};
 use crate::count::MemberCount;
 use crate::facts::Facts;
 use crate::plain::Plain;
-use crate::text_path::{TextPath, body_of};
+use crate::property_path::{PropertyPath, body_of};
+use crate::text_pattern::TextPattern;
 use mx_event::Event;
-use mx_glob::{Glob, Scratch, name_of_text};
-use mx_json::{Json, JsonText, Meter, OutOfMemory, Path};
+use mx_glob::{Scratch, name_of_text};
+use mx_json::{Json, JsonText, Meter, OutOfMemory};
 
 /// What a condition wants of the facts, kind by kind, ready to be tried: its path is cut into
 /// segments, and its pattern is folded.
 #[derive(Drop)]
 pub enum Wanted {
-    EventMatch(TextPath, Glob),
-    EventPropertyIs(Path, Plain),
-    EventPropertyContains(Path, Plain),
+    EventMatch(PropertyPath, TextPattern),
+    EventPropertyIs(PropertyPath, Plain),
+    EventPropertyContains(PropertyPath, Plain),
     RoomMemberCount(Option<MemberCount>),
     SenderNotificationPermission(JsonText),
     ContainsDisplayName,
@@ -31,7 +32,9 @@ impl Wanted {
         ensures { IfOk result (λ met. IsTrue met ↔ IsMet self.now (told_by facts.now)) }
     {
         match self {
-            Wanted::EventMatch(path, glob) => text_matches(facts.event, path, glob, scratch),
+            Wanted::EventMatch(path, pattern) => {
+                text_matches(facts.event, path, pattern, scratch)
+            }
             Wanted::EventPropertyIs(path, value) => Ok(has_value(facts.event, path, value)),
             Wanted::EventPropertyContains(path, value) => Ok(has_member(facts.event, path, value)),
             Wanted::RoomMemberCount(asked) => Ok(is_as_asked(asked, facts.joined)),
@@ -56,37 +59,36 @@ impl Wanted {
 
 fn text_matches(
     event: &Event,
-    path: &TextPath,
-    glob: &Glob,
+    path: &PropertyPath,
+    pattern: &TextPattern,
     scratch: &mut Scratch,
 ) -> Result<bool, OutOfMemory>
-    ensures { IfOk result
-        (λ matches. IsTrue matches ↔ HasText path.now event.now (MatchesAt path.now glob.now)) }
+    ensures { IfOk result (λ matches. IsTrue matches
+        ↔ HasText path.now event.now (MatchesAt path.now pattern.now)) }
 {
     let Some(text) = path.text(event) else {
         return Ok(false);
     };
-    let mut meter = Meter::new();
     if path.is_body() {
-        glob.word_of_text(text, scratch, &mut meter)
+        pattern.is_word_of(text, scratch)
     } else {
-        glob.whole_text(text, scratch, &mut meter)
+        pattern.is_whole(text, path.is_ascii(event), scratch)
     }
 }
 
-fn has_value(event: &Event, path: &Path, value: &Plain) -> bool
+fn has_value(event: &Event, path: &PropertyPath, value: &Plain) -> bool
     ensures { IsTrue result ↔ HasValue path.now event.now value.now }
 {
-    match event.json().look(path) {
+    match path.value(event) {
         Some(found) => value.equals(found),
         None => false,
     }
 }
 
-fn has_member(event: &Event, path: &Path, value: &Plain) -> bool
+fn has_member(event: &Event, path: &PropertyPath, value: &Plain) -> bool
     ensures { IsTrue result ↔ HasMember path.now event.now value.now }
 {
-    match event.json().look(path) {
+    match path.value(event) {
         Some(Json::List(list)) => is_among(list.items.as_slice(), value),
         _ => false,
     }

@@ -1,10 +1,10 @@
 -- What an event of a room is and what is read off it: the fields of the Client-Server API's 'Room event format', in a profile of our own.
-use Rattle.std.specs.Prelude.{◌≡◌, ℕ, nat_le, Bool, true, false, if◌then◌else◌, List, [], ◌∷◌, length, codes, Option, Some, None, is_none, is_some, option_and_then, option_map, unwrap_or, Result, Ok, Err}
+use Rattle.std.specs.Prelude.{◌≡◌, ℕ, nat_le, Bool, true, false, if◌then◌else◌, List, [], ◌∷◌, length, codes, Option, Some, None, is_none, is_some, option_map, unwrap_or, Result, Ok, Err, MatchBool, IsAscii}
 use Rattle.std.specs.Option.{option_map_or}
-use Rattle.std.specs.Str.{bytes_eq}
+use Rattle.std.specs.Str.{bytes_eq, IsNotAscii}
 use Rattle.mx_json.specs.declared.value.Json.{Json, Null}
 use Rattle.mx_json.specs.Ids.{is_event_id, is_room_id, is_user_id}
-use Rattle.mx_json.specs.Json.{is_object, is_valid, member, member_at, text_at, text_of, text_or_empty}
+use Rattle.mx_json.specs.Json.{is_object, is_valid, member, text_at, text_of, text_or_empty}
 use Rattle.mx_event.specs.declared.error.EventError.{EventError}
 use Rattle.mx_event.specs.declared.error.EventError.TheVariants.{BadEvent}
 use Rattle.mx_event.specs.declared.error.EventField.{EventField}
@@ -12,6 +12,8 @@ use Rattle.mx_event.specs.declared.error.EventField.TheVariants.{EventId, RoomId
 use Rattle.mx_event.specs.declared.places.Places.{Places}
 use Rattle.mx_event.specs.declared.relation.Relation.{Relation}
 use Rattle.mx_event.specs.declared.relation.Relation.TheVariants.{Thread, Other, Nothing}
+use Rattle.mx_event.specs.Place.{member_placed}
+use Rattle.mx_event.specs.Property.{AreContentPlaces}
 
 -- ---- the fields
 
@@ -106,17 +108,14 @@ is_event json = is_none (first_wrong_field json)
 abbrev pub read_event : Json → Result Json EventError
 read_event json = option_map_or (λ field. Err (BadEvent field)) (first_wrong_field json) (Ok json)
 
--- the member at a place that may be none; for private clauses
-abbrev pub member_placed : Option ℕ → Json → Option Json
-member_placed place json = option_and_then (λ at. member_at at json) place
-
 -- these are the places in an event, and in its content; for private clauses
 pub record ArePlacesIn (json : Json) (places : Places) : Type 0 where
   pub kind_is : member_placed places.kind json ≡ member (codes "type") json
   pub content_is : member_placed places.content json ≡ member (codes "content") json
   pub state_key_is : member_placed places.state_key json ≡ member (codes "state_key") json
-  pub body_is : member_placed places.body (content_of json) ≡ member (codes "body") (content_of json)
+  pub in_content : AreContentPlaces (content_of json) places.in_content
   pub mentions_are : places.has_mentions ≡ has_mentions json
+  pub ascii_kind_is : MatchBool places.has_ascii_kind (IsAscii (kind_of json)) (IsNotAscii (kind_of json))
 
 -- what an `Event` holds: a valid event, its ids, and the places in it
 pub record HoldsEvent (json : Json) (event_id room_id sender : List ℕ) (places : Places) : Type 0 where

@@ -1,1 +1,3 @@
 pub mod Event
+pub mod Place
+pub mod Property

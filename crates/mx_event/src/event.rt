@@ -1,12 +1,16 @@
-ghost use Rattle.std.specs.Prelude.{◌≡◌, true, codes, IfOk, option_map};
+ghost use Rattle.std.specs.Prelude.{◌≡◌, true, codes, IfOk, IsAscii, MatchBool, option_map};
 ghost use Rattle.std.specs.Option.{option_copied};
+ghost use Rattle.std.specs.Str.{IsNotAscii};
 ghost use Rattle.mx_json.specs.Gives.{Gives};
 ghost use Rattle.mx_json.specs.Json.{is_valid, text_at};
+ghost use Rattle.mx_json.specs.Path.{look};
 ghost use Rattle.mx_event.specs.Event.{body_of, content_of, event_id_of, has_mentions, is_event, kind_of, membership_of, read_event, related_by, relation_of, room_id_of, sender_of, state_key_of, told_membership};
+ghost use Rattle.mx_event.specs.Property.{path_of};
 
 use crate::error::EventError;
 use crate::fields::{event_id_in, first_wrong_after_the_ids, room_id_in, sender_in};
-use crate::places::{Places, member_placed, places_in};
+use crate::places::{Places, member_placed, placed_within, places_in};
+use crate::property::Property;
 use crate::relation::{Relation, relation_in};
 use mx_json::{EventId, Json, OutOfMemory, RoomId, UserId};
 use std::alloc::Global;
@@ -98,6 +102,13 @@ impl Event {
         }
     }
 
+    /// Whether its type is ASCII, which is known at once.
+    pub fn has_ascii_kind(&self) -> bool
+        ensures { MatchBool result (IsAscii (kind_of self.now)) (IsNotAscii (kind_of self.now)) }
+    {
+        self.places.has_ascii_kind
+    }
+
     fn kind_text(&self) -> Option<&str>
         ensures { option_copied result ≡ text_at (codes "type") self.now }
     {
@@ -126,7 +137,7 @@ impl Event {
     pub fn body(&self) -> Option<&str>
         ensures { option_copied result ≡ body_of self.now }
     {
-        member_placed(self.content(), self.places.body)?.as_text()
+        member_placed(self.content(), self.places.in_content.body)?.as_text()
     }
 
     /// Whether its content has the key `m.mentions` (Client-Server API, 'User and room mentions').
@@ -134,6 +145,29 @@ impl Event {
         ensures { result ≡ has_mentions self.now }
     {
         self.places.has_mentions
+    }
+
+    /// The value of a property; `None` exactly where there is none. It is found at once.
+    pub fn property(&self, property: Property) -> Option<&Json>
+        ensures { option_copied result ≡ look (path_of property) self.now }
+    {
+        let places = &self.places.in_content;
+        match property {
+            Property::Kind => member_placed(&self.json, self.places.kind),
+            Property::StateKey => member_placed(&self.json, self.places.state_key),
+            Property::Body => member_placed(self.content(), places.body),
+            Property::MessageType => member_placed(self.content(), places.message_type),
+            Property::Membership => member_placed(self.content(), places.membership),
+            Property::MentionedUsers => {
+                placed_within(self.content(), places.mentions, places.mentioned_users)
+            }
+            Property::MentionsRoom => {
+                placed_within(self.content(), places.mentions, places.mentions_room)
+            }
+            Property::RelationType => {
+                placed_within(self.content(), places.relates_to, places.relation_type)
+            }
+        }
     }
 
     /// The whole object.

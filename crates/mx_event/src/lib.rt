@@ -8,8 +8,10 @@ mod error;
 mod event;
 mod fields;
 mod places;
+mod property;
 mod relation;
 
 pub use error::{EventError, EventField};
 pub use event::Event;
+pub use property::Property;
 pub use relation::Relation;
