@@ -14,6 +14,7 @@ use Rattle.mx_blocks.specs.Entries.{are_needed, AreDistinct, Entries, hot_in, re
 use Rattle.mx_rows.specs.Rows.{has_rows, is_rising}
 use Rattle.mx_rows.specs.Threads.{has_thread, same_thread}
 
+-- That no thread is kept twice is a fact with one proof at most.
 pub AreDistinct-prop : (entries : Entries) → IsProp (AreDistinct entries)
 AreDistinct-prop entries = IsDistinct-prop same_thread (keys_of entries)
 
@@ -42,6 +43,7 @@ kept-entries es t needed =
     by None needed = refl
     by (Some v) needed = sym needed
 
+-- The rows that are kept of a thread rise.
 pub is_rising-rows_in : (es : Entries) (t : ThreadKey) → is_rising (rows_in es t) ≡ true
 is_rising-rows_in es t = by (lookup (same_thread t) es)
   where

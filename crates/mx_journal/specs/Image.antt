@@ -22,9 +22,11 @@ closed_gate = 0
 abbrev pub payload_limit : ℕ
 payload_limit = 262144
 
+-- A payload has 1 to 262,144 bytes.
 abbrev pub IsPayload : List ℕ → Type 0
 IsPayload payload = (0 < length payload) × (length payload ≤ payload_limit)
 
+-- Each of these is a payload.
 abbrev pub ArePayloads : List (List ℕ) → Type 0
 ArePayloads [] = Unit {0}
 ArePayloads (payload ∷ payloads) = IsPayload payload × ArePayloads payloads

@@ -42,6 +42,7 @@ abbrev pub next_after : List Failure → Option ℕ
 next_after [] = None
 next_after (last ∷ before) = Some (last.moment + backoff (length before + 1))
 
+-- The moment from which on the pusher may post again, where a failure makes it wait.
 abbrev pub next_in : Course → Option ℕ
 next_in course = next_after (recent_failures course)
 

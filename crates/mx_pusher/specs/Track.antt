@@ -3,6 +3,8 @@ use Rattle.std.specs.Prelude.{◌≡◌, ℕ, ◌+◌, ◌-◌, ◌^◌, ◌≤�
 use Rattle.mx_pusher.specs.declared.failure.Failure.{Failure}
 use Rattle.mx_pusher.specs.Course.{Course, flight_in, recent_failures, backoff, next_in, last_failed_in, first_failure}
 
+-- What is seen of a `Pusher`: its number, what is in flight, how long it waits after the next failure, from
+-- when on it is posted again, and the last position that failed with its first failure.
 pub record Track : Type 0 where
   pub number : ℕ
   pub in_flight : Option ℕ

@@ -49,6 +49,8 @@ is_local_member server room user = is_local_id server user && has_joined room.me
 
 -- ---- what is seen of `Rooms` and `RoomsPlan`
 
+-- The name of the homeserver, the rooms that have an event, each with its state, and the rooms for whose
+-- next event there is capacity.
 pub record RoomsView : Type 0 where
   -- the name of the homeserver
   pub server : List ℕ

@@ -30,6 +30,7 @@ state_of events kind key = last_of (state_if kind key) events
 
 -- ---- members
 
+-- The type of the event that makes somebody a member.
 abbrev pub member_kind : List ℕ
 member_kind = codes "m.room.member"
 
@@ -50,9 +51,11 @@ member_in events user = option_map member_by (state_of events member_kind user)
 
 -- ---- power levels and creator, both with the empty state key
 
+-- The type of the event that gives a room its power levels.
 abbrev pub powers_kind : List ℕ
 powers_kind = codes "m.room.power_levels"
 
+-- The type of the event that made a room.
 abbrev pub create_kind : List ℕ
 create_kind = codes "m.room.create"
 

@@ -14,6 +14,7 @@ use Rattle.mx_rows.specs.Threads.{same_thread}
 abbrev pub Entry : Type 0
 Entry = ThreadKey × ThreadRows
 
+-- The threads that are kept, each with its rows, in their order.
 abbrev pub Entries : Type 0
 Entries = List Entry
 
@@ -60,6 +61,7 @@ abbrev pub rows_left_to_cut : ℕ → Entries → ℕ
 rows_left_to_cut position entries =
     sum_by (λ entry. length (upto position entry.1.rows.items)) entries
 
+-- How many of the rows at or below a position are highlighted, over these threads.
 abbrev pub highlights_left_to_cut : ℕ → Entries → ℕ
 highlights_left_to_cut position entries =
     sum_by (λ entry. count_by (λ row. row.highlight) (upto position entry.1.rows.items)) entries

@@ -12,6 +12,7 @@ use Rattle.mx_rows.specs.Plain.{are_needed, AreDistinct, Entries, reserved_in, r
 use Rattle.mx_rows.specs.Rows.{has_rows, is_rising}
 use Rattle.mx_rows.specs.Threads.{has_thread, same_thread}
 
+-- That no thread is kept twice is a fact with one proof at most.
 pub AreDistinct-prop : (entries : Entries) → IsProp (AreDistinct entries)
 AreDistinct-prop entries = IsDistinct-prop same_thread (keys_of entries)
 
@@ -40,6 +41,7 @@ kept-entries es t needed =
     by None needed = refl
     by (Some v) needed = sym needed
 
+-- The rows that are kept of a thread rise.
 pub is_rising-rows_in : (es : Entries) (t : ThreadKey) → is_rising (rows_in es t) ≡ true
 is_rising-rows_in es t = by (lookup (same_thread t) es)
   where

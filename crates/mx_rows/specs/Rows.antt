@@ -43,6 +43,7 @@ abbrev pub start_of : List Row → ℕ
 start_of [] = 2 ^ 64
 start_of (row ∷ rows) = row.position
 
+-- there is a row
 abbrev pub has_rows : List Row → Bool
 has_rows [] = false
 has_rows (row ∷ rows) = true

@@ -42,6 +42,7 @@ same_thread-congr (Root id) Main u same = absurd (false≢true same)
 same_thread-congr (Root a) (Root b) Main same = refl
 same_thread-congr (Root a) (Root b) (Root c) same = nat_list_eq_equiv.congr a b c same
 
+-- `same_thread` is an equivalence, as maps by threads ask.
 pub same_thread-equiv : IsEquivalence same_thread
 same_thread-equiv = record {
   refl = same_thread-itself;
@@ -51,10 +52,12 @@ same_thread-equiv = record {
 
 -- ---- what is hashed of a key
 
+-- What is hashed of a key.
 abbrev pub hash_input : ThreadKey → HashWrites
 hash_input Main = fed.u8 0
 hash_input (Root id) = fed.str id
 
+-- Of two keys of one thread the same is hashed.
 pub hash_input-same : (s t : ThreadKey) → IsTrue (same_thread s t) → hash_input s ≡ hash_input t
 hash_input-same Main Main same = refl
 hash_input-same Main (Root id) same = absurd (false≢true same)

@@ -9,6 +9,7 @@ use Rattle.std.specs.Ordering.{nat_cmp}
 use Rattle.mx_thread.specs.declared.place.Place.{Place}
 use Rattle.mx_thread.specs.Place.{Places}
 
+-- Where events are, and the ids for whose places there is capacity.
 pub record ThreadsView : Type 0 where
   pub places : Places
   pub capacity : set.FinSet (slice_cmp nat_cmp)  -- the ids for whose places there is capacity
