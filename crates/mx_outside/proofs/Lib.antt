@@ -9,3 +9,6 @@ pub mod Logged
 pub mod Since
 pub mod Medium
 pub mod LeftBy
+pub mod MomentsGiven
+pub mod Scripts
+pub mod Placed

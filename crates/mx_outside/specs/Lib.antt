@@ -12,3 +12,8 @@ pub mod DiskImage
 pub mod DiskLog
 pub mod MemoryDisk
 pub mod MediumLaws
+pub mod Link
+pub mod Clock
+pub mod ListClock
+pub mod Script
+pub mod ScriptLink
