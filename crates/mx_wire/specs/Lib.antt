@@ -1,1 +1,14 @@
 pub mod Target
+pub mod Reading
+pub mod Blocks
+pub mod Heads
+pub mod Bodies
+pub mod Reply
+pub mod Coding
+pub mod Reader
+pub mod Seen
+pub mod Standing
+pub mod Found
+pub mod Laws
+pub mod Spelling
+pub mod ChunkWords

@@ -1,0 +1,11 @@
+pub mod Chunks
+pub mod Sizes
+pub mod Fields
+pub mod Steps
+pub mod Polling
+pub mod Stays
+pub mod Unique
+pub mod BlockSpelling
+pub mod ChunkSpelling
+pub mod Opened
+pub mod Fills
