@@ -11,3 +11,4 @@ pub mod UptoLemmas
 pub mod PlacesLemmas
 pub mod NoticingLemmas
 pub mod RulesLemmas
+pub mod LengthLemmas

@@ -24,13 +24,13 @@ use Rattle.mx_rows.specs.declared.thread_key.ThreadKey.TheVariants.{Main, Root}
 use Rattle.mx_thread.specs.declared.place.Place.{Place}
 use Rattle.mx_thread.specs.Place.{Places, place_in, thread_of}
 use Rattle.mx_records.specs.declared.input.Input.{Input}
-use Rattle.mx_records.specs.declared.input.Input.TheVariants.{Event, Edit as EditInput, Receipt}
+use Rattle.mx_records.specs.declared.input.Input.TheVariants.{Event, Edit as EditInput, Receipt, Pusher}
 use Rattle.mx_records.specs.declared.refusal.Refusal.{Refusal}
 use Rattle.mx_records.specs.declared.refusal.Refusal.TheVariants.{Full, KnownEvent, NotInThread, NotLocal, UnknownEvent}
 use Rattle.mx_records.specs.History.{History, arrivals_after, events, inputs_of, with_input}
 use Rattle.mx_records.specs.Judging.{notices_in}
 use Rattle.mx_records.specs.Places.{is_event_with, places_of, position_of, thread, with_place}
-use Rattle.mx_records.specs.Refusing.{NamesAPosition, most_inputs, refusal_by, refusal_of, refusal_of_content, refusal_of_read}
+use Rattle.mx_records.specs.Refusing.{NamesAPosition, most_inputs, refusal_by, refusal_of_any, refusal_of_content, refusal_of_read}
 use Rattle.mx_json.specs.Ids.{is_local}
 use Rattle.mx_records.specs.Rooms.{events_of, room_after}
 use Rattle.mx_records.specs.Rules.{edited_rules, own_rules, rules_among, rules_of}
@@ -42,7 +42,7 @@ use Rattle.mx_records.proofs.RulesLemmas.{get-edited_rules, rules_among-edited}
 use Rattle.mx_records.proofs.SnapshotLemmas.{snapshot_of-edit, snapshot_of-push, snapshot_of-receipt}
 use Rattle.mx_engine.specs.declared.error.PrepareError.{PrepareError}
 use Rattle.mx_engine.specs.declared.error.PrepareError.TheVariants.{OutOfMemory, Refused as Unprepared}
-use Rattle.mx_engine.specs.Preparing.{IsPrepared, SaysOfContent}
+use Rattle.mx_engine.specs.Preparing.{IsPlanned, SaysOfContent}
 use Rattle.mx_engine.specs.KeptRows.{AreUnreadRows, list_at}
 use Rattle.mx_engine.specs.Planning.{adds, edits, reads, IsPlannedFor, IsReadFor, PlannedEvent, PlannedRead, Suits, mover_of, rows_with_event, rows_with_read, with_edit, with_event, with_read}
 use Rattle.mx_engine.specs.Reading.{is_read_at, position_at, refusal_at}
@@ -62,8 +62,8 @@ pub refusal-shown : (server : List ℕ) (h : History) (shown : Snapshot) (input 
     (inputs : ℕ) (full : Bool)
     → shown ≡ snapshot_of server h → refusal_of_content server h input ≡ content → inputs ≡ shown.inputs
     → nat_le most_inputs inputs ≡ full
-    → refusal_of server h input ≡ option_or content (cond full (Some Full) None)
-unfolding refusal_of snapshot_of
+    → refusal_of_any server h input ≡ option_or content (cond full (Some Full) None)
+unfolding refusal_of_any snapshot_of
 refusal-shown server h shown input content inputs full is said counted told =
     let full_now : nat_le most_inputs (inputs_of h) ≡ full =
     ap (λ (s : Snapshot). nat_le most_inputs s.inputs) (sym is) ∙ ap (nat_le most_inputs) (sym counted) ∙ told in
@@ -129,7 +129,7 @@ told-refused found error refusal (inr memory) same = absurd cc
 pub prepared-refused : (server : List ℕ) (h : History) (shown : Snapshot) (input : Input) (error : PrepareError)
     → shown ≡ snapshot_of server h
     → SaysOfContent {A = EditPlan} (refusal_of_content server h input) (Err error)
-    → IsPrepared server h input (Err error)
+    → IsPlanned server h input (Err error)
 prepared-refused server h shown input (Unprepared told) is says =
     refusal-shown server h shown input (Some told) shown.inputs (nat_le most_inputs shown.inputs) is says refl refl
 prepared-refused server h shown input OutOfMemory is says = tt
@@ -320,6 +320,7 @@ module _ (server : List ℕ) (h : History) (shown : Snapshot) (position : ℕ) (
   step-adds (Event event) plan suits new unread kept lists = step-event event plan suits new unread kept lists
   step-adds (EditInput user edit) plan suits new unread kept lists = absurd suits
   step-adds (Receipt user room id private named) plan suits new unread kept lists = absurd suits
+  step-adds (Pusher spec) plan suits new unread kept lists = absurd suits
 
   pub step-edits : (input : Input) (editor : List ℕ) (plan : EditPlan) → Suits server shown input (edits editor plan)
       → with_edit server shown position editor plan ≡ snapshot_of server (with_input h input)
@@ -327,6 +328,7 @@ module _ (server : List ℕ) (h : History) (shown : Snapshot) (position : ℕ) (
       (λ i. with_edit server shown position (suits.0 i) plan) ∙ step-edit user edit plan suits.1
   step-edits (Event event) editor plan suits = absurd suits
   step-edits (Receipt user room id private named) editor plan suits = absurd suits
+  step-edits (Pusher spec) editor plan suits = absurd suits
 
   pub step-reads : (input : Input) (plan : PlannedRead) → Suits server shown input (reads plan)
       → (unread : Texts (Texts RoomRows)) → AreUnreadRows unread
@@ -337,3 +339,4 @@ module _ (server : List ℕ) (h : History) (shown : Snapshot) (position : ℕ) (
       step-read user room id private named plan suits unread kept lists
   step-reads (Event event) plan suits unread kept lists = absurd suits
   step-reads (EditInput user edit) plan suits unread kept lists = absurd suits
+  step-reads (Pusher spec) plan suits unread kept lists = absurd suits

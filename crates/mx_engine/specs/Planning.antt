@@ -21,7 +21,7 @@ use Rattle.mx_rows.specs.Rows.{above}
 use Rattle.mx_rows.specs.Threads.{same_thread}
 use Rattle.mx_thread.specs.Place.{place_in, thread_of}
 use Rattle.mx_records.specs.declared.input.Input.{Input}
-use Rattle.mx_records.specs.declared.input.Input.TheVariants.{Event, Edit, Receipt}
+use Rattle.mx_records.specs.declared.input.Input.TheVariants.{Event, Edit, Receipt, Pusher}
 use Rattle.mx_records.specs.Cuts.{moves_to, reaches}
 use Rattle.mx_records.specs.Judging.{notices_in}
 use Rattle.mx_records.specs.Refusing.{most_inputs}
@@ -55,10 +55,12 @@ pub data PlannedChange : Type 0 where
   edits : List ℕ → EditPlan → PlannedChange
   reads : PlannedRead → PlannedChange
 
--- A plan is a change, and the position that its input will take.
+-- A plan is a change, the position that its input will take, and the payload that a journal keeps of
+-- the input.
 pub record Planned : Type 0 where
   pub position : ℕ
   pub change : PlannedChange
+  pub payload : List ℕ
 
 -- ---- what an input leads to
 
@@ -101,6 +103,7 @@ Suits server shown (Edit user edit) (edits editor plan) =
     (editor ≡ user) × IsPlanOf edit (rules_among server shown.rules user) plan
 Suits server shown (Receipt user room id private thread) change =
     IsReads shown user room id thread change
+Suits server shown (Pusher spec) change = ⊥
 Suits server shown (Event event) (edits editor plan) = ⊥
 Suits server shown (Event event) (reads plan) = ⊥
 Suits server shown (Edit user edit) (adds plan) = ⊥

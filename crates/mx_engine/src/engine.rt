@@ -5,7 +5,10 @@ ghost use Rattle.mx_edit.specs.Planning.{is_made_for, IsPlanOf};
 ghost use Rattle.mx_event.specs.Event.{event_id_of, room_id_of};
 ghost use Rattle.mx_records.specs.History.{History, position_after, with_input};
 ghost use Rattle.mx_records.specs.Counting.{counts_of, room_counts_of, rows_of, threads_of};
-ghost use Rattle.mx_records.specs.Refusing.{most_inputs, refusal_of_content};
+ghost use Rattle.mx_records.specs.declared.entry.Entry.{Entry};
+ghost use Rattle.mx_records.specs.Entries.{payload_of};
+ghost use Rattle.mx_records.specs.Normal.{IsNormal};
+ghost use Rattle.mx_records.specs.Refusing.{most_inputs, refusal_of_content, IsBuilt};
 ghost use Rattle.mx_json.specs.Ids.{is_local};
 ghost use Rattle.mx_records.specs.Rules.{is_valid_input, own_rules, rules_among};
 ghost use Rattle.mx_records.specs.Snapshot.{snapshot_of};
@@ -17,10 +20,11 @@ ghost use Rattle.mx_engine.specs.Capacity.{HasCapacity, HasCapacityFor, Suffices
 ghost use Rattle.mx_engine.specs.KeptRows.{AreUnreadRows, list_at};
 ghost use Rattle.mx_engine.specs.Planning.{event_planned, read_planned, rows_with_event, rows_with_read, with_edit, with_event, with_read, IsMadeFor, IsPlacedAt, IsPlannedFor, IsReads, Suits};
 ghost use Rattle.mx_engine.specs.Telling.{KeepsCapacity};
-ghost use Rattle.mx_engine.specs.Preparing.{IsPrepared, RefusesInRange, SaysOfContent};
+ghost use Rattle.mx_engine.specs.Preparing.{IsPlanned, IsPrepared, RefusesInRange, SaysOfContent};
 
 use crate::judging::notified_users;
 use crate::kept_rows::UnreadRows;
+use crate::payload::{payload_within, refused};
 use crate::plan::{Change, EventPlan, ReadPlan};
 use crate::reading::{copied, cut_read, read_upto};
 use crate::rules::{UserRules, remember_named};
@@ -141,7 +145,35 @@ impl<R: Rows> Engine<R> {
     /// `Refused` with the first refusal that applies, exactly where one does. `OutOfMemory` where
     /// the allocator has none.
     pub fn prepare(&mut self, alloc: Global, input: &Input) -> Result<Plan, PrepareError>
-        requires { is_valid_input input.now ≡ true }
+        requires valid { is_valid_input input.now ≡ true }
+        requires normal { IsNormal input.now }
+        requires built { IsBuilt input.now }
+        ensures server { self.new.server ≡ self.old.server }
+        ensures meaning { self.new.shown ≡ self.old.shown }
+        ensures capacity { IfOk result (λ plan. HasCapacity self.new.capacity plan.change) }
+        ensures made { IfOk result (IsMadeFor self.new.server self.new.shown) }
+        ensures suits { IfOk result
+            (λ plan. Suits self.new.server self.new.shown input.now plan.change) }
+        ensures payload { IfOk result
+            (λ plan. plan.payload ≡ payload_of (Entry.Input input.now)) }
+        ensures in_range { RefusesInRange result }
+        ensures exact { (h : History) → self.old.shown ≡ snapshot_of self.old.server h
+            → IsPrepared self.old.server h input.now result }
+    {
+        match self.plan(alloc, input) {
+            Ok(plan) => match payload_within(alloc, input) {
+                Ok(payload) => Ok(plan.with_payload(payload)),
+                Err(error) => Err(error),
+            },
+            Err(PrepareError::Refused(refusal)) => Err(refused(alloc, input, refusal)),
+            Err(PrepareError::OutOfMemory) => Err(PrepareError::OutOfMemory),
+        }
+    }
+
+    // Plans an input of any length, without its payload.
+    fn plan(&mut self, alloc: Global, input: &Input) -> Result<Plan, PrepareError>
+        requires valid { is_valid_input input.now ≡ true }
+        requires built { IsBuilt input.now }
         ensures server { self.new.server ≡ self.old.server }
         ensures meaning { self.new.shown ≡ self.old.shown }
         ensures capacity { IfOk result (λ plan. HasCapacity self.new.capacity plan.change) }
@@ -150,7 +182,7 @@ impl<R: Rows> Engine<R> {
             (λ plan. Suits self.new.server self.new.shown input.now plan.change) }
         ensures in_range { RefusesInRange result }
         ensures exact { (h : History) → self.old.shown ≡ snapshot_of self.old.server h
-            → IsPrepared self.old.server h input.now result }
+            → IsPlanned self.old.server h input.now result }
     {
         match input {
             Input::Event(event) => self.prepare_event(alloc, event),
@@ -162,6 +194,7 @@ impl<R: Rows> Engine<R> {
                 private: _,
                 thread,
             } => self.prepare_receipt(alloc, user, room, event, thread),
+            Input::Pusher(_) => unreachable!(),
         }
     }
 
@@ -174,7 +207,7 @@ impl<R: Rows> Engine<R> {
             (λ plan. Suits self.new.server self.new.shown (Input.Event event.now) plan.change) }
         ensures in_range { RefusesInRange result }
         ensures exact { (h : History) → self.old.shown ≡ snapshot_of self.old.server h
-            → IsPrepared self.old.server h (Input.Event event.now) result }
+            → IsPlanned self.old.server h (Input.Event event.now) result }
     {
         if let Some(place) = self.places.place_of(event.event_id()) {
             return Err(PrepareError::Refused(Refusal::KnownEvent(place.position)));
@@ -188,6 +221,7 @@ impl<R: Rows> Engine<R> {
         Ok(Plan {
             position,
             change: Change::Adds(plan),
+            payload: Vec::new(alloc),
         })
     }
 
@@ -280,7 +314,7 @@ impl<R: Rows> Engine<R> {
             (λ plan. Suits self.new.server self.new.shown (Input.Edit user.now edit.now) plan.change) }
         ensures in_range { RefusesInRange result }
         ensures exact { (h : History) → self.old.shown ≡ snapshot_of self.old.server h
-            → IsPrepared self.old.server h (Input.Edit user.now edit.now) result }
+            → IsPlanned self.old.server h (Input.Edit user.now edit.now) result }
     {
         let plan = match self.plan_edit(alloc, user, edit) {
             Ok(plan) => plan,
@@ -296,6 +330,7 @@ impl<R: Rows> Engine<R> {
                 editor: user.copied(alloc)?,
                 plan,
             },
+            payload: Vec::new(alloc),
         })
     }
 
@@ -334,7 +369,7 @@ impl<R: Rows> Engine<R> {
         ensures in_range { RefusesInRange result }
         ensures exact { (h : History) (private : Bool)
             → self.now.shown ≡ snapshot_of self.now.server h
-            → IsPrepared self.now.server h
+            → IsPlanned self.now.server h
             (Input.Receipt user.now room.now event.now private thread.now) result }
     {
         if !user.is_local(self.server()) {
@@ -355,6 +390,7 @@ impl<R: Rows> Engine<R> {
                 thread: copied(alloc, thread)?,
                 upto,
             }),
+            payload: Vec::new(alloc),
         })
     }
 
@@ -373,7 +409,12 @@ impl<R: Rows> Engine<R> {
             → Suits self.old.server self.old.shown input plan.change
             → self.new.shown ≡ snapshot_of self.new.server (with_input h input) }
     {
-        let Plan { position, change } = plan;
+        let Plan {
+            position,
+            change,
+            payload,
+        } = plan;
+        drop(payload);
         match change {
             Change::Adds(event) => self.add(position, event),
             Change::Edits { editor, plan } => self.edit(position, &editor, plan),

@@ -9,6 +9,7 @@ mod engine;
 mod error;
 mod judging;
 mod kept_rows;
+mod payload;
 mod plan;
 mod reading;
 mod rules;

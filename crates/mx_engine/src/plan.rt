@@ -1,3 +1,5 @@
+ghost use Rattle.std.specs.Prelude.{◌≡◌};
+
 use mx_edit::EditPlan;
 use mx_json::{EventId, RoomId, UserId};
 use mx_room::RoomsPlan;
@@ -6,11 +8,12 @@ use mx_thread::Place;
 use std::marker::Model;
 
 /// An input that was prepared for one state of an engine: all that applying it will take. Contracts
-/// see the position that it will take, and what it changes.
+/// see the position that it will take, what it changes, and its payload.
 #[derive(Drop)]
 pub struct Plan {
     pub(crate) position: u64,
     pub(crate) change: Change,
+    pub(crate) payload: Vec<u8>,
 }
 
 impl Model for Plan {
@@ -28,9 +31,35 @@ impl Model for Plan {
     ghost view = { λ plan. record {
       position = plan.position;
       change = change_planned plan.change;
+      payload = plan.payload.items;
     } };
 
     ghost invariant = { λ plan. IsMadeAt plan.position plan.change };
+}
+
+impl Plan {
+    /// The payload of the input, which a journal keeps.
+    pub fn payload(&self) -> &[u8]
+        ensures { result.now ≡ self.now.payload }
+    {
+        self.payload.as_slice()
+    }
+
+    /// The plan with this payload.
+    pub(crate) fn with_payload(self, payload: Vec<u8>) -> Plan
+        ensures { result ≡ record self { payload = payload.items } }
+    {
+        let Plan {
+            position,
+            change,
+            payload: _,
+        } = self;
+        Plan {
+            position,
+            change,
+            payload,
+        }
+    }
 }
 
 /// What a plan changes.

@@ -12,7 +12,7 @@ use Rattle.mx_rows.specs.declared.counts.Counts.{Counts}
 use Rattle.mx_records.specs.declared.field_name.FieldName.{FieldName}
 use Rattle.mx_records.specs.declared.field_name.FieldName.TheVariants.{Cmd}
 use Rattle.mx_records.specs.declared.refusal.Refusal.{Refusal}
-use Rattle.mx_records.specs.declared.refusal.Refusal.TheVariants.{NotLocal, KnownEvent, UnknownEvent, NotInThread, RuleReserved, BadRule, RuleUnknown, AnchorUnknown, RulesFull, Full}
+use Rattle.mx_records.specs.declared.refusal.Refusal.TheVariants.{NotLocal, KnownEvent, UnknownEvent, NotInThread, RuleReserved, BadRule, RuleUnknown, AnchorUnknown, RulesFull, EntryTooLong, Full}
 use Rattle.mx_lines.specs.declared.command.Denial.{Denial}
 use Rattle.mx_lines.specs.declared.command.Denial.TheVariants.{TooLong, Line, Input}
 use Rattle.mx_lines.specs.declared.command.LineRefusal.{LineRefusal}
@@ -85,6 +85,7 @@ valid-refusal RulesFull names =
     is_valid-Object (members_of ((codes "error", Text (codes "RulesFull")) ∷ (codes "limit", number_of 1000) ∷ [])) refl
     (and_from _ _ (fit_text (codes "error") (codes "RulesFull") refl refl)
     (and_from _ _ (fit_number (codes "limit") 1000 refl (omega arith)) refl))
+valid-refusal EntryTooLong names = valid-error (codes "EntryTooLong") refl
 valid-refusal Full names =
     is_valid-Object (members_of ((codes "error", Text (codes "Full")) ∷ (codes "limit", number_of most_inputs) ∷ []))
     refl

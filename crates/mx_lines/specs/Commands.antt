@@ -10,8 +10,11 @@ use Rattle.mx_json.specs.Reading.{read_json}
 use Rattle.mx_records.specs.declared.field_name.FieldName.TheVariants.{Cmd, User, RoomId, Threads}
 use Rattle.mx_records.specs.declared.input.Input.{Input}
 use Rattle.mx_records.specs.declared.input_word.InputWord.{InputWord}
+use Rattle.mx_records.specs.declared.input_word.InputWord.TheVariants.{Pusher}
 use Rattle.mx_records.specs.Forms.{Form, value_of_form, input_form_of, user_in}
 use Rattle.mx_records.specs.InputWords.{input_word_in}
+use Rattle.mx_records.specs.Normal.{IsNormal}
+use Rattle.mx_records.specs.Refusing.{IsBuilt}
 use Rattle.mx_records.specs.Rules.{is_valid_input}
 use Rattle.mx_lines.specs.declared.command.Command.{Command}
 use Rattle.mx_lines.specs.declared.command.Command.TheVariants.{Input as InputCommand, Counts, Rules}
@@ -73,8 +76,9 @@ question_form_of other line = None
 abbrev pub input_form : Form Input → Form Command
 input_form form = record { fields = form.fields; value = InputCommand form.value }
 
--- The form of each command that is built and is an input.
+-- The form of each command that is built and is an input: `pusher` isn't built.
 abbrev pub accepting_form_of : InputWord → Json → Option (Form Command)
+accepting_form_of Pusher line = None
 accepting_form_of word line = option_map input_form (input_form_of word line)
 
 -- ---- what a line is read as
@@ -116,8 +120,15 @@ ReadsAs expected (Ok command) = expected ≡ Ok command
 ReadsAs expected (Err (Refused refusal)) = expected ≡ Err refusal
 ReadsAs expected (Err WantOfMemory) = Unit {0}
 
--- the JSON values that a command holds are valid
-abbrev pub is_valid_command : Command → Bool
-is_valid_command (InputCommand input) = is_valid_input input
-is_valid_command (Counts user room threads) = true
-is_valid_command (Rules user) = true
+-- An input that is ready to be accepted: what it holds is valid, its object stands for it, and it is
+-- built.
+pub record IsReadyInput (input : Input) : Type 0 where
+  pub valid : is_valid_input input ≡ true
+  pub normal : IsNormal input
+  pub built : IsBuilt input
+
+-- the input that a command asks to accept is ready
+abbrev pub IsReady : Command → Type 0
+IsReady (InputCommand input) = IsReadyInput input
+IsReady (Counts user room threads) = Unit {0}
+IsReady (Rules user) = Unit {0}

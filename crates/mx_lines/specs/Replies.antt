@@ -10,7 +10,7 @@ use Rattle.mx_rows.specs.declared.counts.Counts.{Counts}
 use Rattle.mx_rows.specs.declared.thread_key.ThreadKey.{ThreadKey}
 use Rattle.mx_rows.specs.declared.thread_key.ThreadKey.TheVariants.{Main, Root}
 use Rattle.mx_records.specs.declared.refusal.Refusal.{Refusal}
-use Rattle.mx_records.specs.declared.refusal.Refusal.TheVariants.{NotLocal, KnownEvent, UnknownEvent, NotInThread, RuleReserved, BadRule, RuleUnknown, AnchorUnknown, RulesFull, Full}
+use Rattle.mx_records.specs.declared.refusal.Refusal.TheVariants.{NotLocal, KnownEvent, UnknownEvent, NotInThread, RuleReserved, BadRule, RuleUnknown, AnchorUnknown, RulesFull, EntryTooLong, Full}
 use Rattle.mx_records.specs.FieldNames.{field_of_part, name_of}
 use Rattle.mx_records.specs.Refusing.{most_inputs, NamesAPosition}
 use Rattle.mx_lines.specs.declared.command.Denial.{Denial}
@@ -62,6 +62,7 @@ refusal_value RuleUnknown = error_value (codes "RuleUnknown") []
 refusal_value AnchorUnknown = error_value (codes "AnchorUnknown") []
 refusal_value RulesFull =
     error_value (codes "RulesFull") ((codes "limit", number_of 1000) ∷ [])
+refusal_value EntryTooLong = error_value (codes "EntryTooLong") []
 refusal_value Full = error_value (codes "Full") ((codes "limit", number_of most_inputs) ∷ [])
 
 -- why a line is refused

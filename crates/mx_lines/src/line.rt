@@ -1,9 +1,10 @@
-ghost use Rattle.std.specs.Prelude.{◌≡◌, ◌≤◌, true, length, IfOk, Some, MatchOption, false};
+ghost use Rattle.std.specs.Prelude.{◌≡◌, ◌≢◌, ◌≤◌, true, length, IfOk, Some, MatchOption, false};
 ghost use Rattle.mx_json.specs.Json.{is_valid};
 ghost use Rattle.mx_records.specs.declared.input.Input.{Input};
 ghost use Rattle.mx_records.specs.Forms.{Form, input_form_in};
+ghost use Rattle.mx_records.specs.InputWords.{input_word_in};
 ghost use Rattle.mx_lines.specs.Cutting.{longest_line};
-ghost use Rattle.mx_lines.specs.Commands.{command_of, command_in, question_in, command_by, input_form, counts_form, rules_form, is_valid_command};
+ghost use Rattle.mx_lines.specs.Commands.{command_of, command_in, question_in, command_by, input_form, counts_form, rules_form, IsReady};
 ghost use Rattle.mx_lines.specs.Commands.{has_threads_or_none, threads_in, ReadsAs};
 
 use crate::command::{Command, LineError, LineRefusal};
@@ -31,7 +32,7 @@ const DEEPEST_LINE: u32 = 100;
 pub fn read(alloc: Global, line: &[u8]) -> Result<Command, LineError>
     requires { length line.now ≤ longest_line }
     ensures command { ReadsAs (command_of line.now) result }
-    ensures valid { IfOk result (λ command. is_valid_command command ≡ true) }
+    ensures ready { IfOk result IsReady }
 {
     match Json::from_text(alloc, line, DEEPEST_LINE) {
         Ok(value) => read_command(alloc, value),
@@ -46,21 +47,34 @@ pub fn read(alloc: Global, line: &[u8]) -> Result<Command, LineError>
 fn read_command(alloc: Global, line: Json) -> Result<Command, LineError>
     requires { is_valid line ≡ true }
     ensures command { ReadsAs (command_in line) result }
-    ensures valid { IfOk result (λ command. is_valid_command command ≡ true) }
+    ensures ready { IfOk result IsReady }
 {
     match InputWord::of(&line) {
-        Some(InputWord::Pusher) => Err(LineError::Refused(LineRefusal::NotBuilt)),
-        Some(_) => read_input(alloc, line),
+        Some(word) => read_input_of(alloc, line, word),
         None => read_question(alloc, &line),
+    }
+}
+
+/// The command of a line whose word is this one of an input.
+fn read_input_of(alloc: Global, line: Json, word: InputWord) -> Result<Command, LineError>
+    requires valid { is_valid line ≡ true }
+    requires word { input_word_in line ≡ Some word }
+    ensures command { ReadsAs (command_in line) result }
+    ensures ready { IfOk result IsReady }
+{
+    match word {
+        InputWord::Pusher => Err(LineError::Refused(LineRefusal::NotBuilt)),
+        _ => read_input(alloc, line),
     }
 }
 
 /// The command of an input whose form is built.
 fn read_input(alloc: Global, line: Json) -> Result<Command, LineError>
-    requires { is_valid line ≡ true }
+    requires valid { is_valid line ≡ true }
+    requires built { input_word_in line ≢ Some InputWord.Pusher }
     ensures command { (form : Form Input) → input_form_in line ≡ Some form
         → ReadsAs (command_by (input_form form)) result }
-    ensures valid { IfOk result (λ command. is_valid_command command ≡ true) }
+    ensures ready { IfOk result IsReady }
 {
     match Input::from_json(alloc, line) {
         Ok(input) => Ok(Command::Input(input)),
@@ -74,7 +88,7 @@ fn read_input(alloc: Global, line: Json) -> Result<Command, LineError>
 fn read_question(alloc: Global, line: &Json) -> Result<Command, LineError>
     requires { is_valid line.now ≡ true }
     ensures command { ReadsAs (question_in line.now) result }
-    ensures valid { IfOk result (λ command. is_valid_command command ≡ true) }
+    ensures ready { IfOk result IsReady }
 {
     match QuestionWord::of(line) {
         Some(QuestionWord::Counts) => read_counts(alloc, line),
@@ -94,7 +108,7 @@ fn bad_field(field: FieldName) -> LineError
 fn read_counts(alloc: Global, line: &Json) -> Result<Command, LineError>
     requires { is_valid line.now ≡ true }
     ensures command { ReadsAs (command_by (counts_form line.now)) result }
-    ensures valid { IfOk result (λ command. is_valid_command command ≡ true) }
+    ensures ready { IfOk result IsReady }
 {
     let user = match UserId::read(alloc, line.text_or_empty("user")) {
         Ok(user) => user,
@@ -120,7 +134,7 @@ fn read_counts(alloc: Global, line: &Json) -> Result<Command, LineError>
 fn read_rules(alloc: Global, line: &Json) -> Result<Command, LineError>
     requires { is_valid line.now ≡ true }
     ensures command { ReadsAs (command_by (rules_form line.now)) result }
-    ensures valid { IfOk result (λ command. is_valid_command command ≡ true) }
+    ensures ready { IfOk result IsReady }
 {
     match UserId::read(alloc, line.text_or_empty("user")) {
         Ok(user) => Ok(Command::Rules { user }),

@@ -247,6 +247,7 @@ fn refusal_value(alloc: Global, refusal: &Refusal) -> Result<Json, OutOfMemory>
         Refusal::RuleUnknown => error_value(alloc, "RuleUnknown"),
         Refusal::AnchorUnknown => error_value(alloc, "AnchorUnknown"),
         Refusal::RulesFull => error_beside(alloc, "RulesFull", "limit", number(MOST_RULES)),
+        Refusal::EntryTooLong => error_value(alloc, "EntryTooLong"),
         Refusal::Full => error_beside(alloc, "Full", "limit", number(MOST_INPUTS)),
     }
 }

@@ -9,11 +9,11 @@ use Rattle.mx_event.specs.Event.{room_id_of}
 use Rattle.mx_rows.specs.declared.thread_key.ThreadKey.{ThreadKey}
 use Rattle.mx_rows.proofs.RowLemmas.{list_all-filter, list_all-push}
 use Rattle.mx_records.specs.declared.input.Input.{Input}
-use Rattle.mx_records.specs.declared.input.Input.TheVariants.{Event, Edit, Receipt}
+use Rattle.mx_records.specs.declared.input.Input.TheVariants.{Event, Edit, Receipt, Pusher}
 use Rattle.mx_records.specs.Cuts.{cut_at, cut_by, cut_of, greatest, moves, reaches}
 use Rattle.mx_records.specs.History.{Arrival, Happening, History, arrivals, arrivals_after, events, inputs_of, position_after, with_input}
 use Rattle.mx_records.specs.Places.{is_event_with, position_of}
-use Rattle.mx_records.proofs.HistoryLemmas.{IsNoEvent, arrivals_after-push, by_end, edit-no_event, events-other, events-push, inputs_of-push, next_event, receipt-no_event}
+use Rattle.mx_records.proofs.HistoryLemmas.{IsNoEvent, arrivals_after-push, by_end, edit-no_event, events-other, events-push, inputs_of-push, next_event, receipt-no_event, pusher-no_event}
 
 -- ---- events rise
 
@@ -81,6 +81,7 @@ stands-more h (Event event) stand = stands-event h event stand
 stands-more h (Edit user edit) stand = stands-other h (Edit user edit) (edit-no_event user edit) stand
 stands-more h (Receipt user room id private named) stand =
     stands-other h (Receipt user room id private named) (receipt-no_event user room id private named) stand
+stands-more h (Pusher spec) stand = stands-other h (Pusher spec) (pusher-no_event spec) stand
 
 stands-none : Stands []
 unfolding events arrivals_after
@@ -129,6 +130,7 @@ cut_by-le h (Event event) user room thread =
     cond_both (bytes_eq (room_id_of event) room && moves h event user) (position_after h) 0
     (λ n. n ≤ inputs_of h + 1) (λ _. omega arith) (λ _. omega arith)
 cut_by-le h (Edit editor edit) user room thread = omega arith
+cut_by-le h (Pusher spec) user room thread = omega arith
 cut_by-le h (Receipt reader named id private of) user room thread =
     let upto = position_of-le h id in
     cond_both (bytes_eq reader user && (bytes_eq named room && reaches of thread)) (unwrap_or (position_of h id) 0) 0

@@ -1,5 +1,6 @@
 -- What the form of an event gives, by the first wrong field of the event, and what an input is by the form of its word.
 use Rattle.std.proofs.Common.{◌≡◌, ◌⊎◌, inl, inr, Bool, true, false, cond, List, [], ◌∷◌, ◌++◌, map, Option, None, Some, option_map, Result, Ok, Err, refl, ap, sym, ◌∙◌, subst}
+use Rattle.std.proofs.lemmas.List.{append-nil}
 use Rattle.std.specs.Option.{option_map_or, option_or}
 use Rattle.std.specs.Prelude.{option_and_then}
 use Rattle.std.specs.Result.{IsErr, IsErrAnd}
@@ -138,6 +139,13 @@ refused-next xs ys zs value whole error are_right is =
     subst (λ wrong. IsRefused (option_map_or (λ field. Err (BadField field)) wrong (Ok whole)) error)
     (sym (first_wrong-append xs (ys ++ zs) ∙ ap (λ wrong. option_or wrong (first_wrong (ys ++ zs))) are_right))
     (refused-first ys zs value whole error is)
+
+-- the last fields are refused behind those that are right
+pub refused-last : {A B : Type 0} (xs ys : List (FieldName × Bool)) (value : A) (whole : B) (error : InputError)
+    → AreRight xs → IsRefused (given ys value) error → IsRefused (given (xs ++ ys) whole) error
+refused-last xs ys value whole error are_right is =
+    subst (λ zs. IsRefused (given (xs ++ zs) whole) error) (append-nil ys)
+    (refused-next xs ys [] value whole error are_right is)
 
 -- a refusal that is handed up
 pub gives-refused : {A : Type 0} (result wanted : Result A InputError) (error : InputError)

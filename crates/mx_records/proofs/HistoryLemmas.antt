@@ -14,7 +14,8 @@ use Rattle.mx_room.specs.Rooms.{room_at, rooms_of}
 use Rattle.mx_room.proofs.RoomsLemmas.{room_at-rooms_of}
 use Rattle.mx_room.proofs.StateLemmas.{room_of-push}
 use Rattle.mx_records.specs.declared.input.Input.{Input}
-use Rattle.mx_records.specs.declared.input.Input.TheVariants.{Event, Edit as EditInput, Receipt}
+use Rattle.mx_records.specs.declared.input.Input.TheVariants.{Event, Edit as EditInput, Receipt, Pusher}
+use Rattle.mx_records.specs.declared.pusher_spec.PusherSpec.{PusherSpec}
 use Rattle.mx_records.specs.History.{History, Happening, arrivals, arrivals_after, events, happening_by, happening_of, inputs_of, with_input}
 use Rattle.mx_records.specs.Places.{places_of, with_place}
 use Rattle.mx_records.specs.Rooms.{events_of, room_after}
@@ -66,6 +67,10 @@ edit-no_event user edit before = refl
 pub receipt-no_event : (user room id : List ℕ) (private : Bool) (named : Option ThreadKey)
     → IsNoEvent (Receipt user room id private named)
 receipt-no_event user room id private named before = refl
+
+-- a setting of a pusher is no event
+pub pusher-no_event : (spec : PusherSpec) → IsNoEvent (Pusher spec)
+pusher-no_event spec before = refl
 
 -- an input that is no event leaves the events as they were
 pub events-other : (h : History) (input : Input) → IsNoEvent input → events (with_input h input) ≡ events h

@@ -21,14 +21,14 @@ use Rattle.mx_rows.specs.declared.thread_key.ThreadKey.{ThreadKey}
 use Rattle.mx_rows.specs.Rows.{are_in_order, has_rows}
 use Rattle.mx_rows.specs.Threads.{has_thread, same_thread}
 use Rattle.mx_records.specs.declared.input.Input.{Input}
-use Rattle.mx_records.specs.declared.input.Input.TheVariants.{Event, Edit, Receipt}
+use Rattle.mx_records.specs.declared.input.Input.TheVariants.{Event, Edit, Receipt, Pusher}
 use Rattle.mx_records.specs.Counting.{each_once, is_in, is_unread, rows_of, thread_in, threads_of, unread}
 use Rattle.mx_records.specs.History.{Happening, History, arrivals_after, events, with_input}
 use Rattle.mx_records.specs.Judging.{notifies}
 use Rattle.mx_records.specs.KeptRows.{HaveRooms, HaveRows, thread_rows}
 use Rattle.mx_records.specs.Rooms.{events_of}
 use Rattle.mx_records.specs.Snapshot.{RoomRows, by_room, by_user, room_rows, rows_at, rows_by_thread, some_rooms, some_rows, unread_rows}
-use Rattle.mx_records.proofs.HistoryLemmas.{IsNoEvent, by_end, edit-no_event, events-other, events-push, events_of-other, events_of-push, next_event, receipt-no_event}
+use Rattle.mx_records.proofs.HistoryLemmas.{IsNoEvent, by_end, edit-no_event, events-other, events-push, events_of-other, events_of-push, next_event, receipt-no_event, pusher-no_event}
 use Rattle.mx_records.proofs.NoticeLemmas.{notice-unnamed}
 use Rattle.mx_records.proofs.ThreadLemmas.{has-threads_of, threads_of-only}
 use Rattle.mx_records.proofs.UnreadLemmas.{same_thread-same}
@@ -134,6 +134,7 @@ module _ (server user : List ℕ) where
       unnoticed-other h (Edit editor edit) (edit-no_event editor edit) before
   unnoticed-more h (Receipt reader room id private named) before =
       unnoticed-other h (Receipt reader room id private named) (receipt-no_event reader room id private named) before
+  unnoticed-more h (Pusher spec) before = unnoticed-other h (Pusher spec) (pusher-no_event spec) before
 
   unnoticed-none : IsUnnoticed []
   unfolding events arrivals_after

@@ -11,3 +11,11 @@ pub mod OrderedLemmas
 pub mod UnreadSteps
 pub mod PlacesLemmas
 pub mod RulesLemmas
+pub mod GivenLemmas
+pub mod NormalLemmas
+pub mod PusherLemmas
+pub mod ReadLemmas
+pub mod EntryLemmas
+pub mod PostingLemmas
+pub mod DepthLemmas
+pub mod PendingLemmas

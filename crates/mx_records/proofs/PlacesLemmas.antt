@@ -14,14 +14,14 @@ use Rattle.mx_rows.specs.Threads.{same_thread}
 use Rattle.mx_thread.specs.declared.place.Place.{Place}
 use Rattle.mx_thread.specs.Place.{Places, place_in}
 use Rattle.mx_records.specs.declared.input.Input.{Input}
-use Rattle.mx_records.specs.declared.input.Input.TheVariants.{Event, Edit, Receipt}
+use Rattle.mx_records.specs.declared.input.Input.TheVariants.{Event, Edit, Receipt, Pusher}
 use Rattle.mx_records.specs.declared.refusal.Refusal.{Refusal}
 use Rattle.mx_records.specs.declared.refusal.Refusal.TheVariants.{NotInThread, UnknownEvent}
 use Rattle.mx_records.specs.Counting.{is_in, thread_in}
 use Rattle.mx_records.specs.History.{Happening, History, arrivals_after, events, position_after, with_input}
 use Rattle.mx_records.specs.Places.{is_event_with, place_among, places_of, position_of, with_place}
 use Rattle.mx_records.specs.Refusing.{is_read_in, refusal_of_read}
-use Rattle.mx_records.proofs.HistoryLemmas.{IsNoEvent, by_end, edit-no_event, events-other, events-push, next_event, places_of-other, places_of-push, receipt-no_event}
+use Rattle.mx_records.proofs.HistoryLemmas.{IsNoEvent, by_end, edit-no_event, events-other, events-push, next_event, places_of-other, places_of-push, receipt-no_event, pusher-no_event}
 
 -- an id that has no place gets that of the event
 pub with_place-new : (places : Places) (happening : Happening)
@@ -129,6 +129,7 @@ placed-more id h (Event event) before = placed-event id h event before
 placed-more id h (Edit editor edit) before = placed-other id h (Edit editor edit) (edit-no_event editor edit) before
 placed-more id h (Receipt reader room named private of) before =
     placed-other id h (Receipt reader room named private of) (receipt-no_event reader room named private of) before
+placed-more id h (Pusher spec) before = placed-other id h (Pusher spec) (pusher-no_event spec) before
 
 placed-none : (id : List ℕ) → IsPlaced id []
 unfolding places_of events arrivals_after

@@ -14,7 +14,7 @@ use Rattle.mx_rule.specs.Editing.{edited}
 use Rattle.mx_rule.specs.Predefined.{predefined_rules}
 use Rattle.mx_rule.specs.Ruleset.{PushRuleset}
 use Rattle.mx_records.specs.declared.input.Input.{Input}
-use Rattle.mx_records.specs.declared.input.Input.TheVariants.{Event, Edit as EditInput, Receipt}
+use Rattle.mx_records.specs.declared.input.Input.TheVariants.{Event, Edit as EditInput, Receipt, Pusher}
 use Rattle.mx_records.specs.History.{History, with_input}
 use Rattle.mx_records.specs.Rules.{edit_by, edited_rules, editor_of, edits_of, has_edited, is_edit_of, own_rules, rules_among, rules_of}
 
@@ -98,6 +98,7 @@ has_edited-editors : (h : History) (user : List ℕ)
 has_edited-editors [] user = refl
 has_edited-editors (Event event ∷ h) user = has_edited-editors h user
 has_edited-editors (Receipt reader room id private named ∷ h) user = has_edited-editors h user
+has_edited-editors (Pusher spec ∷ h) user = has_edited-editors h user
 has_edited-editors (EditInput editor edit ∷ h) user =
     ap (λ b. b || has_edited h user) (is_some-given (bytes_eq user editor) edit)
     ∙ ap (λ b. bytes_eq user editor || b) (has_edited-editors h user)

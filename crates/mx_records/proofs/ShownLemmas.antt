@@ -12,12 +12,12 @@ use Rattle.mx_rows.specs.declared.thread_key.ThreadKey.{ThreadKey}
 use Rattle.mx_rows.specs.Rows.{are_in_order, counts_in, has_rows, is_rising, with_rows}
 use Rattle.mx_rows.specs.Threads.{has_thread, same_thread}
 use Rattle.mx_records.specs.declared.input.Input.{Input}
-use Rattle.mx_records.specs.declared.input.Input.TheVariants.{Event, Edit, Receipt}
+use Rattle.mx_records.specs.declared.input.Input.TheVariants.{Event, Edit, Receipt, Pusher}
 use Rattle.mx_records.specs.Counting.{counts_of, is_unread, room_counts_of, row_of, rows_of, threads_of, thread_in, unread, unread_in}
 use Rattle.mx_records.specs.History.{Happening, History, arrivals_after, events, inputs_of, with_input}
 use Rattle.mx_records.specs.KeptRows.{thread_rows}
 use Rattle.mx_records.specs.Snapshot.{RoomRows, Snapshot, ThreadRows, room_rows, rows_at, rows_by_thread, snapshot_of}
-use Rattle.mx_records.proofs.HistoryLemmas.{by_end, edit-no_event, events-other, events-push, inputs_of-push, next_event, receipt-no_event}
+use Rattle.mx_records.proofs.HistoryLemmas.{by_end, edit-no_event, events-other, events-push, inputs_of-push, next_event, receipt-no_event, pusher-no_event}
 use Rattle.mx_records.proofs.KeptLemmas.{room_rows-lists, room_rows-only, rows_at-unread, thread_rows-room}
 use Rattle.mx_records.proofs.ThreadLemmas.{distinct-filter, room_counts_of-threads}
 use Rattle.mx_records.proofs.UnreadLemmas.{same_thread-same}
@@ -166,6 +166,10 @@ fewer-more h (Receipt user room id private named) few =
     let longer = inputs_of-push h (Receipt user room id private named) in
     let same = ap length (events-other h (Receipt user room id private named)
     (receipt-no_event user room id private named)) in
+    omega arith
+fewer-more h (Pusher spec) few =
+    let longer = inputs_of-push h (Pusher spec) in
+    let same = ap length (events-other h (Pusher spec) (pusher-no_event spec)) in
     omega arith
 
 fewer-none : AreFewer []

@@ -11,7 +11,7 @@ use Rattle.mx_room.specs.State.{room_of}
 use Rattle.mx_rows.specs.declared.thread_key.ThreadKey.{ThreadKey}
 use Rattle.mx_rows.specs.Threads.{same_thread}
 use Rattle.mx_records.specs.declared.input.Input.{Input}
-use Rattle.mx_records.specs.declared.input.Input.TheVariants.{Event, Edit, Receipt}
+use Rattle.mx_records.specs.declared.input.Input.TheVariants.{Event, Edit, Receipt, Pusher}
 use Rattle.mx_records.specs.History.{Arrival, History, arrivals, position_after}
 use Rattle.mx_records.specs.Places.{position_of}
 use Rattle.mx_records.specs.Rooms.{events_of}
@@ -56,6 +56,7 @@ cut_by user room thread before (Edit editor edit) = 0
 cut_by user room thread before (Receipt reader named id private of) =
     if bytes_eq reader user && (bytes_eq named room && reaches of thread) then unwrap_or (position_of before id) 0
     else 0
+cut_by user room thread before (Pusher spec) = 0
 
 -- the same of an arrival
 abbrev pub cut_at : List ℕ → List ℕ → ThreadKey → Arrival → ℕ

@@ -1,11 +1,13 @@
 -- What an object has to hold to be an input, field by field: ours.
-use Rattle.std.specs.Prelude.{ℕ, Bool, true, false, ◌&&◌, nat_le, if◌then◌else◌, List, [], ◌∷◌, ◌++◌, length, map, codes, Option, None, Some, is_some, option_and_then, option_map, unwrap_or, Result, Ok, Err}
+use Rattle.std.specs.Prelude.{ℕ, ℤ, pos, negsuc, Bool, true, false, ◌&&◌, ◌||◌, nat_le, if◌then◌else◌, List, [], ◌∷◌, ◌++◌, length, map, chars, codes, Option, None, Some, is_some, option_and_then, option_map, unwrap_or, Result, Ok, Err}
 use Rattle.std.specs.Option.{option_map_or}
 use Rattle.std.specs.Str.{bytes_eq}
-use Rattle.mx_json.specs.declared.value.Json.{Json, Null}
+use Rattle.mx_json.specs.declared.value.Json.{Json, Null, out-Json}
+use Rattle.mx_json.specs.declared.value.Json.TheOpen.{Json-F}
 use Rattle.mx_json.specs.declared.value.JsonList.{JsonList}
+use Rattle.mx_json.specs.declared.value.JsonObject.{JsonObject}
 use Rattle.mx_json.specs.Ids.{is_event_id, is_room_id, is_user_id}
-use Rattle.mx_json.specs.Json.{list_at, list_of, member, text_at, text_of, text_or_empty, truth_at}
+use Rattle.mx_json.specs.Json.{is_object, list_at, list_of, member, text_at, text_of, text_or_empty, top_pairs, truth_at, truth_of, whole_at}
 use Rattle.mx_event.specs.declared.error.EventField.{EventField}
 use Rattle.mx_event.specs.declared.error.EventField.TheVariants as event_field
 use Rattle.mx_event.specs.Event.{fields_of, first_wrong}
@@ -15,13 +17,15 @@ use Rattle.mx_rule.specs.declared.edit.Edit.TheVariants.{Put, Delete, Enable, Se
 use Rattle.mx_rule.specs.declared.kind.Kind.{Kind}
 use Rattle.mx_rule.specs.declared.kind.Kind.TheVariants as kind
 use Rattle.mx_records.specs.declared.field_name.FieldName.{FieldName}
-use Rattle.mx_records.specs.declared.field_name.FieldName.TheVariants.{Cmd, EventEventId, EventRoomId, EventSender, EventKind, EventContent, EventStateKey, User, Kind as KindField, RuleId, Actions, Conditions, Pattern, Before, After, Enabled, RoomId, EventId, ReceiptKind, ThreadId}
+use Rattle.mx_records.specs.declared.field_name.FieldName.TheVariants.{Cmd, EventEventId, EventRoomId, EventSender, EventKind, EventContent, EventStateKey, User, Kind as KindField, RuleId, Actions, Conditions, Pattern, Before, After, Enabled, RoomId, EventId, ReceiptKind, ThreadId, Pushkey, AppId, AppDisplayName, DeviceDisplayName, Lang, Data, DataUrl, DataFormat, Append, Ts}
 use Rattle.mx_records.specs.declared.input.Input.{Input}
-use Rattle.mx_records.specs.declared.input.Input.TheVariants.{Event, Edit, Receipt}
+use Rattle.mx_records.specs.declared.input.Input.TheVariants.{Event, Edit, Receipt, Pusher}
 use Rattle.mx_records.specs.declared.input_error.InputError.{InputError}
 use Rattle.mx_records.specs.declared.input_error.InputError.TheVariants.{BadField}
 use Rattle.mx_records.specs.declared.input_word.InputWord.{InputWord}
-use Rattle.mx_records.specs.declared.input_word.InputWord.TheVariants.{Event as EventWord, RulePut, RuleDelete, RuleEnable, RuleActions, Receipt as ReceiptWord}
+use Rattle.mx_records.specs.declared.input_word.InputWord.TheVariants.{Event as EventWord, RulePut, RuleDelete, RuleEnable, RuleActions, Receipt as ReceiptWord, Pusher as PusherWord}
+use Rattle.mx_records.specs.declared.pusher_spec.HttpPusher.{HttpPusher}
+use Rattle.mx_records.specs.declared.pusher_spec.PusherSpec.{PusherSpec}
 use Rattle.mx_records.specs.InputWords.{input_word_in}
 
 -- A form: the fields of an object in their order, each with whether it is right, and what the
@@ -239,7 +243,162 @@ receipt_form json = record {
       (given_thread json);
 }
 
--- The form of each input that is built.
+-- ---- what stands in a setting of a pusher
+
+-- the value of `pushkey`, and the empty text where that is none
+abbrev pub pushkey_in : Json → List ℕ
+pushkey_in json = text_or_empty (codes "pushkey") json
+
+-- a pushkey has 1 to 512 bytes
+abbrev pub is_pushkey : List ℕ → Bool
+is_pushkey key = nat_le 1 (length key) && nat_le (length key) 512
+
+-- the value of `app_id`, and the empty text where that is none
+abbrev pub app_id_in : Json → List ℕ
+app_id_in json = text_or_empty (codes "app_id") json
+
+-- an app's id has 1 to 64 characters
+abbrev pub is_app_id : List ℕ → Bool
+is_app_id id = nat_le 1 (length (chars id)) && nat_le (length (chars id)) 64
+
+-- what stands at the top of a value is `null`
+abbrev pub is_null_at_top : Json-F Json JsonList JsonObject → Bool
+is_null_at_top Json-F.Null = true
+is_null_at_top other = false
+
+-- the value is `null`
+abbrev pub is_null : Json → Bool
+is_null json = is_null_at_top (out-Json json)
+
+-- the value is the text `http`
+abbrev pub is_http : Json → Bool
+is_http json = option_map_or (λ text. bytes_eq text (codes "http")) (text_of json) false
+
+-- the kind of a pusher is `http`, or `null` where it is taken away
+abbrev pub has_pusher_kind : Json → Bool
+has_pusher_kind json = option_map_or (λ kind. is_http kind || is_null kind) (member (codes "kind") json) false
+
+-- the pusher is set, and not taken away
+abbrev pub is_set : Json → Bool
+is_set json = option_map_or is_http (member (codes "kind") json) false
+
+-- the value of `data`, and null where there is none
+abbrev pub data_in : Json → Json
+data_in json = unwrap_or (member (codes "data") json) Null
+
+-- the object that stands under `data`
+abbrev pub details_in : Json → JsonObject
+details_in json = record { pairs = top_pairs (out-Json (data_in json)) }
+
+-- a gateway's URL has at most 2,048 bytes
+abbrev pub is_short_url : List ℕ → Bool
+is_short_url text = nat_le (length text) 2048
+
+-- a URL stands under `url`
+abbrev pub has_url : Json → Bool
+has_url details = option_map_or is_short_url (text_at (codes "url") details) false
+
+-- nothing stands under a key, or a truth value
+abbrev pub has_truth_or_none : List ℕ → Json → Bool
+has_truth_or_none key json = option_map_or (λ value. is_some (truth_of value)) (member key json) true
+
+-- a number of seconds is at least 0
+abbrev pub seconds_told : ℤ → Option ℕ
+seconds_told (pos seconds) = Some seconds
+seconds_told (negsuc below) = None
+
+-- the seconds under `ts`
+abbrev pub seconds_in : Json → Option ℕ
+seconds_in json = option_and_then seconds_told (whole_at (codes "ts") json)
+
+-- whose pusher is set, which one, and whether it posts
+abbrev pub named_fields : Json → List (FieldName × Bool)
+named_fields json =
+    (User, is_user_id (user_in json)) ∷ (Pushkey, is_pushkey (pushkey_in json))
+    ∷ (AppId, is_app_id (app_id_in json)) ∷ (KindField, has_pusher_kind json) ∷ []
+
+-- which pusher is set: its user, its pushkey and its app; for private clauses
+abbrev pub named_form : Json → Form (List ℕ × List ℕ × List ℕ × Bool)
+named_form json = record {
+  fields = named_fields json;
+  value = (user_in json, pushkey_in json, app_id_in json, is_set json);
+}
+
+-- the names that a pusher shows to people
+abbrev pub shown_fields : Json → List (FieldName × Bool)
+shown_fields json =
+    (AppDisplayName, is_some (text_at (codes "app_display_name") json))
+    ∷ (DeviceDisplayName, is_some (text_at (codes "device_display_name") json))
+    ∷ (Lang, is_some (text_at (codes "lang") json)) ∷ []
+
+-- the names that a pusher shows, and its language; for private clauses
+abbrev pub shown_form : Json → Form (List ℕ × List ℕ × List ℕ)
+shown_form json = record {
+  fields = shown_fields json;
+  value = (
+    text_or_empty (codes "app_display_name") json,
+    text_or_empty (codes "device_display_name") json,
+    text_or_empty (codes "lang") json,
+  );
+}
+
+-- what the gateway is told
+abbrev pub data_fields : Json → List (FieldName × Bool)
+data_fields json =
+    (Data, is_object (data_in json)) ∷ (DataUrl, has_url (data_in json))
+    ∷ (DataFormat, has_text_or_none (codes "format") (data_in json)) ∷ []
+
+-- the object that the gateway is told; for private clauses
+abbrev pub data_form : Json → Form JsonObject
+data_form json = record { fields = data_fields json; value = details_in json }
+
+-- whether other users' pushers stay
+abbrev pub append_field : Json → FieldName × Bool
+append_field json = (Append, has_truth_or_none (codes "append") json)
+
+-- when the pusher was set
+abbrev pub ts_field : Json → FieldName × Bool
+ts_field json = (Ts, is_some (seconds_in json))
+
+-- the fields of a pusher that posts
+abbrev pub http_fields : Json → List (FieldName × Bool)
+http_fields json = shown_fields json ++ (data_fields json ++ (append_field json ∷ ts_field json ∷ []))
+
+-- the pusher that posts
+abbrev pub http_in : Json → HttpPusher
+http_in json = record {
+  app_display_name = text_or_empty (codes "app_display_name") json;
+  device_display_name = text_or_empty (codes "device_display_name") json;
+  lang = text_or_empty (codes "lang") json;
+  details = details_in json;
+  append = truth_at (codes "append") json;
+  ts = unwrap_or (seconds_in json) 0;
+}
+
+-- how the pusher posts; for private clauses
+abbrev pub http_form : Json → Form HttpPusher
+http_form json = record { fields = http_fields json; value = http_in json }
+
+-- how the pusher posts, if it is set; for private clauses
+abbrev pub posting_form : Bool → Json → Form (Option HttpPusher)
+posting_form is_set json = record {
+  fields = if is_set then http_fields json else [];
+  value = if is_set then Some (http_in json) else None;
+}
+
+-- `pusher`
+abbrev pub pusher_form : Json → Form Input
+pusher_form json = record {
+  fields = named_fields json ++ (if is_set json then http_fields json else []);
+  value = Pusher (record {
+    user = user_in json;
+    pushkey = pushkey_in json;
+    app_id = app_id_in json;
+    http = if is_set json then Some (http_in json) else None;
+  });
+}
+
+-- The form of each input.
 abbrev pub input_form_of : InputWord → Json → Option (Form Input)
 input_form_of EventWord json = Some (event_form json)
 input_form_of RulePut json = Some (put_form json)
@@ -247,7 +406,7 @@ input_form_of RuleDelete json = Some (delete_form json)
 input_form_of RuleEnable json = Some (enable_form json)
 input_form_of RuleActions json = Some (set_actions_form json)
 input_form_of ReceiptWord json = Some (receipt_form json)
-input_form_of other json = None
+input_form_of PusherWord json = Some (pusher_form json)
 
 -- ---- reading an input
 

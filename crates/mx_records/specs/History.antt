@@ -3,7 +3,7 @@ use Rattle.std.specs.Prelude.{ℕ, ◌+◌, List, [], ◌∷◌, ◌++◌, lengt
 use Rattle.std.specs.List.{filter_map}
 use Rattle.mx_json.specs.declared.value.Json.{Json}
 use Rattle.mx_records.specs.declared.input.Input.{Input}
-use Rattle.mx_records.specs.declared.input.Input.TheVariants.{Event, Edit, Receipt}
+use Rattle.mx_records.specs.declared.input.Input.TheVariants.{Event, Edit, Receipt, Pusher}
 
 -- A history is the list of the inputs that were accepted, oldest first.
 abbrev pub History : Type 0
@@ -46,6 +46,7 @@ abbrev pub happening_by : History → Input → Option Happening
 happening_by before (Event event) = Some (record { before = before; event = event })
 happening_by before (Edit user edit) = None
 happening_by before (Receipt user room id private thread) = None
+happening_by before (Pusher spec) = None
 
 -- what happens at an arrival
 abbrev pub happening_of : Arrival → Option Happening

@@ -11,3 +11,6 @@ pub mod KeptRows
 pub mod FieldNames
 pub mod InputWords
 pub mod Forms
+pub mod Normal
+pub mod Entries
+pub mod Pending

@@ -1,5 +1,5 @@
 -- Which inputs and questions a history refuses, and which inputs it may go on with: ours.
-use Rattle.std.specs.Prelude.{ℕ, ◌≤◌, List, ◌≡◌, Bool, true, not, ◌||◌, nat_le, if◌then◌else◌, Option, None, Some, option_map, find}
+use Rattle.std.specs.Prelude.{ℕ, ◌≤◌, List, length, map, ◌≡◌, Bool, true, not, ◌||◌, nat_le, nat_lt, if◌then◌else◌, Option, None, Some, option_map, find, All}
 use Rattle.std.specs.Option.{option_map_or, option_or}
 use Rattle.std.specs.Str.{bytes_eq}
 use Rattle.mx_json.specs.Ids.{is_local}
@@ -8,10 +8,14 @@ use Rattle.mx_rule.specs.declared.edit.EditRefusal.{EditRefusal}
 use Rattle.mx_rule.specs.declared.edit.EditRefusal.TheVariants as edit
 use Rattle.mx_rule.specs.Editing.{refusal_of_edit}
 use Rattle.mx_records.specs.declared.input.Input.{Input}
-use Rattle.mx_records.specs.declared.input.Input.TheVariants.{Event, Edit, Receipt}
+use Rattle.mx_records.specs.declared.input.Input.TheVariants.{Event, Edit, Receipt, Pusher}
 use Rattle.mx_records.specs.declared.refusal.Refusal.{Refusal}
-use Rattle.mx_records.specs.declared.refusal.Refusal.TheVariants.{NotLocal, KnownEvent, UnknownEvent, NotInThread, RuleReserved, BadRule, RuleUnknown, AnchorUnknown, RulesFull, Full}
-use Rattle.mx_records.specs.History.{Happening, History, events, inputs_of}
+use Rattle.mx_records.specs.declared.refusal.Refusal.TheVariants.{NotLocal, KnownEvent, UnknownEvent, NotInThread, RuleReserved, BadRule, RuleUnknown, AnchorUnknown, RulesFull, EntryTooLong, Full}
+use Rattle.mx_json.specs.Json.{depth_of}
+use Rattle.mx_records.specs.declared.entry.Entry.TheVariants.{Input as InputEntry}
+use Rattle.mx_records.specs.Entries.{payload_of}
+use Rattle.mx_records.specs.History.{Happening, History, arrivals, events, inputs_of}
+use Rattle.mx_records.specs.Normal.{normal_of, IsNormal}
 use Rattle.mx_rows.specs.declared.thread_key.ThreadKey.{ThreadKey}
 use Rattle.mx_rows.specs.declared.thread_key.ThreadKey.TheVariants.{Main, Root}
 use Rattle.mx_rows.specs.Threads.{same_thread}
@@ -50,7 +54,8 @@ refusal_of_read room id named (Some happening) =
 
 -- why a history refuses an input for what it says: an event whose id was accepted is known, at
 -- the first position of its id; an edit is of a local user, and does what that user's rules allow;
--- a receipt is of a local user, and names an event of its room, in the thread that it names, if any
+-- a receipt is of a local user, and names an event of its room, in the thread that it names, if any; a
+-- pusher is set for a local user
 abbrev pub refusal_of_content : List ℕ → History → Input → Option Refusal
 refusal_of_content server h (Event event) =
     option_map KnownEvent (position_of h (event_id_of event))
@@ -60,15 +65,62 @@ refusal_of_content server h (Edit user edit) =
 refusal_of_content server h (Receipt user room id private named) =
     if is_local server user then refusal_of_read room id named (find (is_event_with id) (events h))
     else Some NotLocal
+refusal_of_content server h (Pusher spec) = if is_local server spec.user then None else Some NotLocal
 
--- Why a history refuses an input: for what it says, and else because the history is full.
-unfoldable pub refusal_of : List ℕ → History → Input → Option Refusal
-refusal_of server h input =
+-- how many bytes the payload of an input may have
+abbrev pub longest_payload : ℕ
+longest_payload = 262144
+
+-- how deep the object that stands for an input may be nested
+abbrev pub deepest_input : ℕ
+deepest_input = 100
+
+-- the payload of an input has more bytes than it may have, or its object is nested too deep
+unfoldable pub is_too_long : Input → Bool
+is_too_long input =
+    nat_lt longest_payload (length (payload_of (InputEntry input)))
+    || nat_lt deepest_input (depth_of (normal_of input))
+
+-- why an input that a history doesn't refuse for what it says is refused: it is too long, or else the
+-- history is full
+abbrev pub refusal_of_room : History → Input → Option Refusal
+refusal_of_room h input =
+    if is_too_long input then Some EntryTooLong else (if is_full h then Some Full else None)
+
+-- why a history refuses an input of any length: for what it says, and else because the history is
+-- full; for private clauses
+unfoldable pub refusal_of_any : List ℕ → History → Input → Option Refusal
+refusal_of_any server h input =
     option_or (refusal_of_content server h input) (if is_full h then Some Full else None)
 
--- An input may come next where nothing refuses it.
-abbrev pub IsAcceptable : List ℕ → History → Input → Type 0
-IsAcceptable server h input = refusal_of server h input ≡ None
+-- Why a history refuses an input: for what it says, and else because it is too long or the history
+-- is full.
+unfoldable pub refusal_of : List ℕ → History → Input → Option Refusal
+refusal_of server h input = option_or (refusal_of_content server h input) (refusal_of_room h input)
+
+-- ---- which histories are valid
+
+-- The input is that of a command that is built: a pusher isn't.
+abbrev pub IsBuilt : Input → Type 0
+IsBuilt (Event event) = Unit {0}
+IsBuilt (Edit user edit) = Unit {0}
+IsBuilt (Receipt user room id private named) = Unit {0}
+IsBuilt (Pusher spec) = ⊥
+
+-- An input may come next where it is one that its object stands for, it is built, and nothing refuses
+-- it.
+pub record IsAcceptable (server : List ℕ) (h : History) (input : Input) : Type 0 where
+  pub normal : IsNormal input
+  pub built : IsBuilt input
+  pub unrefused : refusal_of server h input ≡ None
+
+-- Each input of a history is acceptable after those before it.
+unfoldable pub IsValid : List ℕ → History → Type 0
+IsValid server h = All (λ arrival. IsAcceptable server arrival.before arrival.input) (arrivals h)
+
+-- The payloads of a history, in order: what a journal keeps of it.
+unfoldable pub payloads_of : History → List (List ℕ)
+payloads_of h = map (λ input. payload_of (InputEntry input)) h
 
 -- a position that a refusal names is one that an input can have
 abbrev pub NamesAPosition : Refusal → Type 0
@@ -81,4 +133,5 @@ NamesAPosition (BadRule part) = Unit {0}
 NamesAPosition RuleUnknown = Unit {0}
 NamesAPosition AnchorUnknown = Unit {0}
 NamesAPosition RulesFull = Unit {0}
+NamesAPosition EntryTooLong = Unit {0}
 NamesAPosition Full = Unit {0}

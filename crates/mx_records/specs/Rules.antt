@@ -10,7 +10,7 @@ use Rattle.mx_rule.specs.Editing.{edited, is_valid_edit}
 use Rattle.mx_rule.specs.Predefined.{predefined_rules}
 use Rattle.mx_rule.specs.Ruleset.{PushRuleset}
 use Rattle.mx_records.specs.declared.input.Input.{Input}
-use Rattle.mx_records.specs.declared.input.Input.TheVariants.{Event, Edit as EditInput, Receipt}
+use Rattle.mx_records.specs.declared.input.Input.TheVariants.{Event, Edit as EditInput, Receipt, Pusher}
 use Rattle.mx_records.specs.History.{History}
 
 -- the JSON values that an input holds are valid
@@ -18,12 +18,14 @@ abbrev pub is_valid_input : Input → Bool
 is_valid_input (Event event) = true
 is_valid_input (EditInput editor edit) = is_valid_edit edit
 is_valid_input (Receipt reader room id private thread) = true
+is_valid_input (Pusher spec) = true
 
 -- the edit that an input makes of this user's rules, if it makes one
 abbrev pub edit_by : List ℕ → Input → Option Edit
 edit_by user (Event event) = None
 edit_by user (EditInput editor edit) = if bytes_eq user editor then Some edit else None
 edit_by user (Receipt reader room id private thread) = None
+edit_by user (Pusher spec) = None
 
 -- the edits of a user's rules, oldest first
 abbrev pub edits_of : History → List ℕ → List Edit
@@ -53,6 +55,7 @@ abbrev pub editor_of : Input → Option (List ℕ)
 editor_of (Event event) = None
 editor_of (EditInput editor edit) = Some editor
 editor_of (Receipt reader room id private thread) = None
+editor_of (Pusher spec) = None
 
 -- The rules of each user who edited them.
 unfoldable pub edited_rules : List ℕ → History → Texts PushRuleset

@@ -218,7 +218,7 @@ fn list_or_none(
 }
 
 /// The text under a key, if anything stands there.
-fn text_or_none(
+pub(crate) fn text_or_none(
     alloc: Global,
     json: &Json,
     key: &str,

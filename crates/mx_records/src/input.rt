@@ -2,11 +2,13 @@ ghost use Rattle.std.specs.Prelude.{◌≡◌, true, IfOk};
 ghost use Rattle.mx_json.specs.Gives.{Gives};
 ghost use Rattle.mx_json.specs.Json.{is_valid};
 ghost use Rattle.mx_records.specs.Rules.{is_valid_input};
+ghost use Rattle.mx_records.specs.Normal.{IsNormal};
 ghost use Rattle.mx_records.specs.Forms.{event_in, name_in_event, event_form, input_in, value_of_form};
 
 use crate::edit_form::{read_delete, read_enable, read_put, read_set_actions};
+use crate::pusher_form::read_pusher;
 use crate::receipt_form::read_receipt;
-use crate::{FieldName, InputError, InputWord};
+use crate::{FieldName, InputError, InputWord, PusherSpec};
 use mx_event::{Event, EventError, EventField};
 use mx_json::{EventId, Json, RoomId, UserId};
 use mx_rows::ThreadKey;
@@ -38,6 +40,8 @@ pub enum Input {
         /// The thread that was read; `None` where all of the room was.
         thread: Option<ThreadKey>,
     },
+    /// A user sets a pusher, or takes it away.
+    Pusher(PusherSpec),
 }
 
 impl Input {
@@ -46,23 +50,33 @@ impl Input {
     /// # Errors
     ///
     /// `BadField` with the first field that is missing or wrong: `cmd` first, which is wrong where
-    /// its word is not that of an input, or of one that isn't built yet. `OutOfMemory` where the
-    /// allocator has none.
-    #[tactic(auto, unfolding(crate::specs::Forms::input_in))]
+    /// its word is not that of an input. `OutOfMemory` where the allocator has none.
     pub fn from_json(alloc: Global, json: Json) -> Result<Input, InputError>
         requires { is_valid json ≡ true }
         ensures input { Gives InputError.OutOfMemory result (input_in json) }
         ensures valid { IfOk result (λ input. is_valid_input input ≡ true) }
+        ensures normal { IfOk result IsNormal }
     {
-        match InputWord::of(&json) {
-            Some(InputWord::Event) => read_event(alloc, json),
-            Some(InputWord::RulePut) => read_put(alloc, &json),
-            Some(InputWord::RuleDelete) => read_delete(alloc, &json),
-            Some(InputWord::RuleEnable) => read_enable(alloc, &json),
-            Some(InputWord::RuleActions) => read_set_actions(alloc, &json),
-            Some(InputWord::Receipt) => read_receipt(alloc, &json),
-            _ => Err(InputError::BadField(FieldName::Cmd)),
-        }
+        read_by_word(alloc, json)
+    }
+}
+
+/// The input of an object, by the form that its word asks for.
+#[tactic(auto, unfolding(crate::specs::Forms::input_in))]
+fn read_by_word(alloc: Global, json: Json) -> Result<Input, InputError>
+    requires { is_valid json ≡ true }
+    ensures input { Gives InputError.OutOfMemory result (input_in json) }
+    ensures valid { IfOk result (λ input. is_valid_input input ≡ true) }
+{
+    match InputWord::of(&json) {
+        Some(InputWord::Event) => read_event(alloc, json),
+        Some(InputWord::RulePut) => read_put(alloc, &json),
+        Some(InputWord::RuleDelete) => read_delete(alloc, &json),
+        Some(InputWord::RuleEnable) => read_enable(alloc, &json),
+        Some(InputWord::RuleActions) => read_set_actions(alloc, &json),
+        Some(InputWord::Receipt) => read_receipt(alloc, &json),
+        Some(InputWord::Pusher) => read_pusher(alloc, &json),
+        None => Err(InputError::BadField(FieldName::Cmd)),
     }
 }
 

@@ -9,21 +9,37 @@
 //! way of [`Questions`].
 #![tactic(auto)]
 
+mod decoding;
 mod edit_form;
+mod encoding;
+mod entry;
+mod entry_error;
 mod field_name;
 mod input;
 mod input_error;
 mod input_word;
+mod nesting;
+mod normal;
+mod pending;
+mod pusher_form;
+mod pusher_spec;
 mod questions;
 mod receipt_form;
 mod refusal;
 #[cfg(test)]
 mod tests;
 
+pub use decoding::decode;
+pub use encoding::{encode_input_into, encode_into};
+pub use entry::{Entry, Outcome};
+pub use entry_error::EntryError;
 pub use field_name::FieldName;
 pub use input::Input;
 pub use input_error::InputError;
 pub use input_word::InputWord;
 pub use mx_rows::Counts;
+pub use nesting::is_too_long;
+pub use pending::{PendingEvent, Tweaks};
+pub use pusher_spec::{HttpPusher, PusherSpec};
 pub use questions::Questions;
-pub use refusal::{MOST_INPUTS, Refusal};
+pub use refusal::{DEEPEST_INPUT, LONGEST_PAYLOAD, MOST_INPUTS, Refusal};

@@ -9,6 +9,12 @@ use std::fmt;
 /// As many inputs as a history may have.
 pub const MOST_INPUTS: u64 = 1_000_000;
 
+/// How many bytes the payload of an input may have.
+pub const LONGEST_PAYLOAD: usize = 262_144;
+
+/// How deep the object that stands for an input may be nested.
+pub const DEEPEST_INPUT: u32 = 100;
+
 /// Why a history refuses an input or a question, in the order in which the causes are tested.
 #[derive(Clone, Copy, Debug, PartialEq, Eq)]
 pub enum Refusal {
@@ -31,6 +37,9 @@ pub enum Refusal {
     AnchorUnknown,
     /// The user made 1,000 rules, and the rule isn't one of them.
     RulesFull,
+    /// The input's payload has more than 262,144 bytes, or the object that stands for it is nested
+    /// deeper than 100. No line of at most 131,072 bytes that is nested at most 100 deep gives one.
+    EntryTooLong,
     /// The history has 1,000,000 inputs, and takes no more.
     Full,
 }
@@ -52,6 +61,7 @@ impl fmt::Display for Refusal {
             Refusal::RuleUnknown => f.write_str("there is no such rule"),
             Refusal::AnchorUnknown => f.write_str("there is no such rule to stand beside"),
             Refusal::RulesFull => f.write_str("the user has as many rules as a user may have"),
+            Refusal::EntryTooLong => f.write_str("the input is too long to be kept"),
             Refusal::Full => write!(
                 f,
                 "{MOST_INPUTS} inputs were accepted, and no more are taken"

@@ -1,10 +1,9 @@
-ghost use Rattle.std.specs.Prelude.{◌≡◌, ◌≤◌, length, true, Ok, OnOk, Some};
+ghost use Rattle.std.specs.Prelude.{◌≡◌, ◌≤◌, length, Ok, OnOk, Some};
 ghost use Rattle.mx_records.specs.History.{History};
-ghost use Rattle.mx_records.specs.Rules.{is_valid_input};
 ghost use Rattle.mx_records.specs.Snapshot.{snapshot_of};
 ghost use Rattle.mx_lines.specs.Cutting.{longest_line, IsShort};
 ghost use Rattle.mx_lines.specs.Admission.{admission_of, admission_by};
-ghost use Rattle.mx_lines.specs.Commands.{is_valid_command};
+ghost use Rattle.mx_lines.specs.Commands.{IsReady, IsReadyInput};
 ghost use Rattle.push_server.specs.Answered.{asked_user, IsAnswered};
 ghost use Rattle.push_server.specs.Steps.{AnswersCut};
 
@@ -63,7 +62,7 @@ fn follow(
     command: &Command,
     out: &mut Vec<u8>,
 ) -> Result<(), OutOfMemory>
-    requires { is_valid_command command.now ≡ true }
+    requires { IsReady command.now }
     ensures server { engine.new.server ≡ engine.old.server }
     ensures answered { (h : History) → engine.old.shown ≡ snapshot_of engine.old.server h
         → OnOk result (IsAnswered engine.old.server h
@@ -106,7 +105,7 @@ fn accept(
     input: &Input,
     out: &mut Vec<u8>,
 ) -> Result<(), OutOfMemory>
-    requires { is_valid_input input.now ≡ true }
+    requires { IsReadyInput input.now }
     ensures server { engine.new.server ≡ engine.old.server }
     ensures answered { (h : History) → engine.old.shown ≡ snapshot_of engine.old.server h
         → OnOk result (IsAnswered engine.old.server h

@@ -25,6 +25,7 @@ fn word_of(command: &Command) -> &'static str {
         Command::Input(Input::Edit { edit, .. }) => word_of_edit(edit),
         Command::Input(Input::Receipt { thread: None, .. }) => "receipt of a room",
         Command::Input(Input::Receipt { .. }) => "receipt of a thread",
+        Command::Input(Input::Pusher(_)) => "pusher",
         Command::Counts { threads: true, .. } => "counts, thread by thread",
         Command::Counts { threads: false, .. } => "counts in sum",
         Command::Rules { .. } => "rules",

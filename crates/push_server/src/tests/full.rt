@@ -1,7 +1,6 @@
 //! The millionth input, over the engine: edits of one rule, which keep nothing of what they were.
 
-ghost use Rattle.std.specs.Prelude.{◌≡◌, true};
-ghost use Rattle.mx_records.specs.Rules.{is_valid_input};
+ghost use Rattle.mx_lines.specs.Commands.{IsReadyInput};
 
 use mx_engine::{Engine, PrepareError, Refusal};
 use mx_lines::{Command, read};
@@ -26,7 +25,7 @@ fn is_full_at(rt: &impl Abort, alloc: Global, times: u64) -> bool {
 }
 
 fn is_full_after(rt: &impl Abort, alloc: Global, input: &Input, times: u64) -> bool
-    requires { is_valid_input input.now ≡ true }
+    requires { IsReadyInput input.now }
 {
     let mut engine: Engine<PlainRows> = Engine::new(alloc, "example.org").expect(rt, "an engine");
     for _ in 0..times {
@@ -38,7 +37,7 @@ fn is_full_after(rt: &impl Abort, alloc: Global, input: &Input, times: u64) -> b
 }
 
 fn is_accepted(alloc: Global, engine: &mut Engine<PlainRows>, input: &Input) -> bool
-    requires { is_valid_input input.now ≡ true }
+    requires { IsReadyInput input.now }
 {
     match engine.prepare(alloc, input) {
         Ok(plan) => {

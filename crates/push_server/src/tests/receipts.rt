@@ -15,6 +15,8 @@ enum Step {
     Read(&'static str, &'static str),
     /// What `counts` has beside its command, and the object that is replied.
     Counts(&'static str, &'static str),
+    /// A line with an edit of rules, which is accepted.
+    Edit(&'static str),
 }
 
 struct Row {
@@ -25,6 +27,11 @@ struct Row {
 #[test]
 fn threads_are_read_by_themselves(rt: HostRuntime) {
     assert_eq!(rt; wrong_row(&rt, rt.alloc(), &THREADS), "");
+}
+
+#[test]
+fn who_is_muted_reacts_in_a_thread(rt: HostRuntime) {
+    assert_eq!(rt; wrong_row(&rt, rt.alloc(), &MUTED), "");
 }
 
 #[test]
@@ -79,6 +86,11 @@ fn say_step(
         Step::Counts(fields, counts) => {
             say_counts(rt, alloc, script, fields, counts);
             position
+        }
+        Step::Edit(line) => {
+            let next = position.saturating_add(1);
+            say_accepted(rt, alloc, script, line, next);
+            next
         }
     }
 }
@@ -150,6 +162,10 @@ const B_JOINS: Step = Step::Event(Told(R, B, MEMBER, Some(B), JOIN));
 
 const B_LEAVES: Step = Step::Event(Told(R, B, MEMBER, Some(B), LEAVE));
 
+const A_KICKS_B: Step = Step::Event(Told(R, A, MEMBER, Some(B), LEAVE));
+
+const A_BANS_B: Step = Step::Event(Told(R, A, MEMBER, Some(B), r#"{"membership":"ban"}"#));
+
 const A_INVITES_B: Step = Step::Event(Told(R, A, MEMBER, Some(B), r#"{"membership":"invite"}"#));
 
 const HI: Step = Step::Event(Told(R, A, MESSAGE, None, r#"{"body":"hi","msgtype":"m.text"}"#));
@@ -163,14 +179,12 @@ const IN_3: Step = Step::Event(Told(
     r#"{"body":"yes","m.relates_to":{"event_id":"$3","rel_type":"m.thread"},"msgtype":"m.text"}"#,
 ));
 
-/// A reaction to the fourth event, and one to an event that nobody knows.
-const TO_4: Step = Step::Event(Told(
-    R,
-    A,
-    "m.reaction",
-    None,
-    r#"{"m.relates_to":{"event_id":"$4","key":"+1","rel_type":"m.annotation"}}"#,
-));
+/// A reaction to the fourth event, one of the other user, and one to an event that nobody knows.
+const TO_4: Step = Step::Event(Told(R, A, "m.reaction", None, LIKES_4));
+
+const B_TO_4: Step = Step::Event(Told(R, B, "m.reaction", None, LIKES_4));
+
+const LIKES_4: &str = r#"{"m.relates_to":{"event_id":"$4","key":"+1","rel_type":"m.annotation"}}"#;
 
 const TO_ZZ: Step = Step::Event(Told(
     R,
@@ -181,6 +195,8 @@ const TO_ZZ: Step = Step::Event(Told(
 ));
 
 const OF_B: &str = r#""room_id":"!r:example.org","user":"@b:example.org""#;
+
+const OF_A: &str = r#""room_id":"!r:example.org","user":"@a:example.org""#;
 
 const OF_B_IN_SUM: &str = r#""room_id":"!r:example.org","threads":false,"user":"@b:example.org""#;
 
@@ -198,6 +214,25 @@ const ONE_AND_ONE: &str =
 const NONE_AND_ONE: &str =
     r#"{"highlight_count":0,"notification_count":0,"threads":{"$3":{"highlight_count":0,"notification_count":1}}}"#;
 
+const ONE_AND_TWO: &str =
+    r#"{"highlight_count":0,"notification_count":1,"threads":{"$3":{"highlight_count":0,"notification_count":2}}}"#;
+
+const A_IS_MUTED: Step = Step::Edit(
+    r#"{"cmd":"rule_enable","enabled":true,"kind":"override","rule_id":".m.rule.master","user":"@a:example.org"}"#,
+);
+
+const B_IS_MUTED: Step = Step::Edit(
+    r#"{"cmd":"rule_enable","enabled":true,"kind":"override","rule_id":".m.rule.master","user":"@b:example.org"}"#,
+);
+
+const B_MUTES_R: Step = Step::Edit(
+    r#"{"actions":[],"cmd":"rule_put","kind":"room","rule_id":"!r:example.org","user":"@b:example.org"}"#,
+);
+
+const B_WANTS_REACTIONS: Step = Step::Edit(
+    r#"{"actions":["notify"],"cmd":"rule_put","conditions":[{"key":"type","kind":"event_match","pattern":"m.reaction"}],"kind":"override","rule_id":"x","user":"@b:example.org"}"#,
+);
+
 const UNKNOWN: &str = "UnknownEvent";
 
 const NOT_IN: &str = "NotInThread";
@@ -212,10 +247,21 @@ static THREADS: [Row; 1] = [
 ];
 
 #[rattlefmt::skip]
-static RECEIPTS: [Row; 6] = [
+static MUTED: [Row; 3] = [
+    Row { name: "by the master rule", steps: &[A_JOINS, B_JOINS, HI, IN_3, B_IS_MUTED, B_TO_4, IN_3, HI, Step::Counts(OF_A, NONE), Step::Counts(OF_B, ONE_AND_ONE),
+        Step::Read(r#""event_id":"$6","room_id":"!r:example.org","thread_id":"main","type":"m.read","user":"@b:example.org""#, NOT_IN),
+        Step::Read(r#""event_id":"$6","room_id":"!r:example.org","thread_id":"$3","type":"m.read","user":"@b:example.org""#, ""), Step::Counts(OF_B, ONE)] },
+    Row { name: "by a rule of the room", steps: &[A_JOINS, B_JOINS, HI, IN_3, B_MUTES_R, B_TO_4, IN_3, HI, Step::Counts(OF_A, NONE), Step::Counts(OF_B, ONE_AND_ONE),
+        Step::Read(r#""event_id":"$6","room_id":"!r:example.org","type":"m.read","user":"@b:example.org""#, ""), Step::Counts(OF_B, NONE)] },
+    Row { name: "and notifies who wants reactions", steps: &[A_JOINS, B_JOINS, HI, IN_3, B_WANTS_REACTIONS, A_IS_MUTED, TO_4, Step::Counts(OF_B, ONE_AND_TWO)] },
+];
+
+#[rattlefmt::skip]
+static RECEIPTS: [Row; 7] = [
     Row { name: "a receipt of the room reads its threads", steps: &[A_JOINS, B_JOINS, HI, IN_3, Step::Counts(OF_B_IN_SUM, TWO_IN_SUM), Step::Read(r#""event_id":"$4","room_id":"!r:example.org","type":"m.read","user":"@b:example.org""#, ""), Step::Counts(OF_B, NONE)] },
     Row { name: "a receipt of the main thread", steps: &[A_JOINS, B_JOINS, HI, IN_3, Step::Read(r#""event_id":"$3","room_id":"!r:example.org","thread_id":"main","type":"m.read.private","user":"@b:example.org""#, ""), Step::Counts(OF_B, NONE_AND_ONE)] },
     Row { name: "a receipt of a thread after a later one of the room", steps: &[A_JOINS, B_JOINS, HI, IN_3, HI, Step::Read(r#""event_id":"$5","room_id":"!r:example.org","type":"m.read","user":"@b:example.org""#, ""), Step::Read(r#""event_id":"$4","room_id":"!r:example.org","thread_id":"$3","type":"m.read","user":"@b:example.org""#, ""), Step::Counts(OF_B, NONE)] },
+    Row { name: "a receipt of the room after a later one of a thread", steps: &[A_JOINS, B_JOINS, HI, IN_3, IN_3, HI, Step::Read(r#""event_id":"$5","room_id":"!r:example.org","thread_id":"$3","type":"m.read","user":"@b:example.org""#, ""), Step::Counts(OF_B, TWO), Step::Read(r#""event_id":"$3","room_id":"!r:example.org","type":"m.read","user":"@b:example.org""#, ""), Step::Counts(OF_B, ONE)] },
     Row { name: "a receipt before any unread event", steps: &[A_JOINS, B_JOINS, HI, HI, Step::Read(r#""event_id":"$2","room_id":"!r:example.org","type":"m.read","user":"@b:example.org""#, ""), Step::Counts(OF_B, TWO)] },
     Row { name: "a later receipt of an earlier event", steps: &[A_JOINS, B_JOINS, HI, HI, HI, Step::Read(r#""event_id":"$4","room_id":"!r:example.org","type":"m.read","user":"@b:example.org""#, ""), Step::Read(r#""event_id":"$3","room_id":"!r:example.org","type":"m.read","user":"@b:example.org""#, ""), Step::Counts(OF_B, ONE)] },
     Row { name: "a receipt of another user", steps: &[A_JOINS, B_JOINS, HI, Step::Read(r#""event_id":"$3","room_id":"!r:example.org","type":"m.read","user":"@a:example.org""#, ""), Step::Counts(OF_B, ONE)] },
@@ -231,11 +277,12 @@ static REFUSED: [Row; 5] = [
 ];
 
 #[rattlefmt::skip]
-static MEMBERSHIP: [Row; 4] = [
+static MEMBERSHIP: [Row; 5] = [
     Row { name: "an invitation, a join, a leave, a join", steps: &[A_JOINS, A_INVITES_B, Step::Counts(OF_B, ONE), B_JOINS, Step::Counts(OF_B, NONE), B_LEAVES, HI, B_JOINS, Step::Counts(OF_B, NONE)] },
     Row { name: "an invitation that is declined", steps: &[A_JOINS, A_INVITES_B, B_LEAVES, Step::Counts(OF_B, NONE)] },
     Row { name: "a name that changes", steps: &[A_JOINS, B_JOINS, HI, Step::Event(Told(R, B, MEMBER, Some(B), r#"{"displayname":"Bob","membership":"join"}"#)), Step::Counts(OF_B, ONE)] },
-    Row { name: "a kick", steps: &[A_JOINS, B_JOINS, HI, Step::Event(Told(R, A, MEMBER, Some(B), LEAVE)), Step::Counts(OF_B, NONE)] },
+    Row { name: "a kick, and a join", steps: &[A_JOINS, B_JOINS, HI, A_KICKS_B, Step::Counts(OF_B, NONE), HI, B_JOINS, HI, Step::Counts(OF_B, ONE)] },
+    Row { name: "a ban, its end, and a join", steps: &[A_JOINS, B_JOINS, HI, A_BANS_B, Step::Counts(OF_B, NONE), A_KICKS_B, HI, B_JOINS, HI, Step::Counts(OF_B, ONE)] },
 ];
 
 // ---- a late receipt

@@ -43,6 +43,7 @@ returns-clause-made g c =
     let plan : Planned = record {
       position = c.self-2.inside.inputs + 1;
       change = adds (event_planned c.in_ok-plan.plan);
+      payload = c.new.result.items;
     } in
     let now = c.reserve.new.self in
     let meaning : now.shown ≡ c.args.self.now.shown = c.reserve.ensures.meaning in

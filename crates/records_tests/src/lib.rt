@@ -1,0 +1,6 @@
+#![tactic(auto)]
+
+#[cfg(test)]
+mod long;
+#[cfg(test)]
+mod payloads;
