@@ -47,6 +47,30 @@ fall_none segment size here shorter next short ends fall none other t low high s
           ]
     ]
 
+-- the longest beginning that goes on with the character
+pub IsNext-here : (segment : List ℕ) (size here shorter : ℕ) → shorter ≤ size → StandsAt segment segment shorter (size - shorter) → NoneLonger segment size here shorter → slice_get segment shorter ≡ Some here → IsNext segment size here (shorter + 1)
+IsNext-here segment size here shorter short ends none e = record {
+  most = omega arith;
+  last = λ i same. let at_end : i ≡ shorter = omega arith in ap (slice_get segment) at_end ∙ e;
+  others = λ i h.
+      let at_place : size + 1 - (shorter + 1) + i ≡ size - shorter + i = omega arith in
+      ap (slice_get segment) at_place ∙ ends i (omega arith);
+  longest = λ t low high stands. none t (omega arith) high stands;
+}
+
+-- none goes on with it
+pub IsNext-none : (segment : List ℕ) (size here shorter : ℕ) → shorter ≡ 0 → NoneLonger segment size here shorter → (slice_get segment shorter ≡ Some here → ⊥) → IsNext segment size here 0
+IsNext-none segment size here shorter start none other = record {
+  most = omega arith;
+  last = λ i same. absurd (omega arith);
+  others = λ i h. absurd (omega arith);
+  longest = λ t low high stands same.
+      elim (cases_lt shorter t) [
+        | inl above ↦ none t above high stands same
+        | inr below ↦ let e : shorter ≡ t = omega arith in other (ap (slice_get segment) e ∙ same)
+      ];
+}
+
 -- the fall of a beginning of one character
 pub IsFall-one : (segment : List ℕ) → IsFall segment 1 0
 IsFall-one segment = record {

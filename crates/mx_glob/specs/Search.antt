@@ -2,7 +2,6 @@
 use Rattle.std.specs.Prelude.{◌≡◌, ℕ, ◌+◌, ◌-◌, ◌*◌, ◌<◌, ◌≤◌, ◌%◌, ◌==◌, false, List, [], ◌∷◌, length, Some, slice_get, slice_index}
 use Rattle.mx_glob.specs.Glob.{star, question}
 use Rattle.mx_glob.specs.Leads.{IsNameAt}
-use Rattle.mx_glob.specs.Words.{is_outside}
 use Rattle.mx_glob.specs.declared.search.Tried.{Tried}
 use Rattle.mx_glob.specs.declared.search.Tried.TheVariants.{Word, Ahead, Behind}
 
@@ -36,9 +35,9 @@ abbrev pub IsLiteral : List ℕ → Type 0
 IsLiteral [] = Unit {0}
 IsLiteral (c ∷ rest) = (c == star ≡ false) × (c == question ≡ false) × IsLiteral rest
 
--- A pattern that is itself and begins inside a word.
+-- A pattern that is itself, and isn't empty.
 pub record IsName (pattern : List ℕ) : Type 0 where
-  pub inside : is_outside (slice_get pattern 0) ≡ false
+  pub some : 0 < length pattern
   pub literal : IsLiteral pattern
 
 -- What the try of a place told of it, and how much was read since a search began: up to two characters for each place that is ruled out, or at most the name's length and one more.

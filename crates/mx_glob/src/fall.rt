@@ -2,7 +2,9 @@ ghost use Rattle.std.specs.Prelude.{◌≡◌, ◌<◌, ◌≤◌, ◌↔◌, le
 ghost use Rattle.mx_glob.specs.Automaton.{AreFalls, IsNext};
 
 /// Fills the table of falls of a segment: for each of its beginnings, from that of one character on,
-/// how long the longest shorter beginning is with which it ends.
+/// how long the longest shorter beginning is with which it ends. It is kept apart from the search,
+/// which makes the table once at most.
+#[inline(never)]
 pub(crate) fn make_falls(segment: &[char], falls: &mut [usize])
     requires some { 0 < length segment.now }
     requires room { length segment.now ≤ length falls.old }
@@ -17,22 +19,34 @@ pub(crate) fn make_falls(segment: &[char], falls: &mut [usize])
 
 /// With how many characters of the segment a text ends that ended with `state` of them and has one
 /// more character: as many as there can be.
-pub(crate) fn next_state(segment: &[char], falls: &[usize], state: usize, here: char) -> usize
+fn next_state(segment: &[char], falls: &[usize], state: usize, here: char) -> usize
     requires within { state ≤ length segment.now }
     requires room { length segment.now ≤ length falls.now }
     requires known { AreFalls segment.now falls.now state }
     ensures { IsNext segment.now state here result }
 {
+    if goes_on(segment, state, here) {
+        return state + 1;
+    }
+    fallen_state(segment, falls, state, here)
+}
+
+/// The same where the segment doesn't go on with the character.
+pub(crate) fn fallen_state(segment: &[char], falls: &[usize], state: usize, here: char) -> usize
+    requires within { state ≤ length segment.now }
+    requires room { length segment.now ≤ length falls.now }
+    requires known { AreFalls segment.now falls.now state }
+    requires other { slice_get segment.now state ≡ Some here → ⊥ }
+    ensures { IsNext segment.now state here result }
+{
     let mut shorter = state;
-    loop {
+    while shorter > 0 {
+        shorter = falls[shorter - 1];
         if goes_on(segment, shorter, here) {
             return shorter + 1;
         }
-        if shorter == 0 {
-            return 0;
-        }
-        shorter = falls[shorter - 1];
     }
+    0
 }
 
 /// Whether the segment goes on with this character after so many.

@@ -12,7 +12,7 @@ use crate::place::agrees;
 use crate::rest::{End, leads_on, split_star};
 use crate::scratch::Scratch;
 use crate::search::has_word;
-use crate::skips::{begins_inside, is_literal};
+use crate::skips::{has_some, is_literal};
 use crate::word::find_word;
 use mx_json::{Folded, Meter, OutOfMemory};
 use std::alloc::Global;
@@ -28,7 +28,7 @@ pub struct Glob {
     pattern: Folded,
     // Whether the pattern has no `*` and no `?`.
     is_literal: bool,
-    // Whether it also begins inside a word: then a word match searches for it as it stands.
+    // Whether it also has a character: then a word match searches for it as it stands.
     is_name: bool,
 }
 
@@ -61,7 +61,7 @@ impl Glob {
         }
         let pattern = Folded::of(alloc, pattern)?;
         let is_literal = is_literal(&pattern);
-        let is_name = is_literal && begins_inside(&pattern);
+        let is_name = is_literal && has_some(&pattern);
         Ok(Glob {
             pattern,
             is_literal,

@@ -1,13 +1,15 @@
 ghost use Rattle.std.specs.Prelude.{◌≡◌, ℕ, ◌+◌, ◌-◌, ◌^◌, ◌<◌, ◌≤◌, ◌↔◌, length, slice_get, Some, IfSome, IfNone, IsTrue, MatchOption};
+ghost use Rattle.std.specs.ControlFlow.{MatchControlFlow};
 ghost use Rattle.mx_json.specs.Folded.{RisesAtMost};
 ghost use Rattle.mx_glob.specs.Automaton.{AreFalls, IsExact, IsEdged, IsReached, IsNowhere, passed};
 ghost use Rattle.mx_glob.specs.Leads.{IsFirstFrom, IsNameAt};
 ghost use Rattle.mx_glob.specs.Words.{is_outside, character_before, HasWord};
 
-use crate::fall::{goes_on, make_falls, next_state};
+use crate::fall::{fallen_state, goes_on, make_falls};
 use crate::word::is_outside;
 use mx_json::{Folded, Meter};
 use std::mem;
+use std::ops::ControlFlow;
 
 /// A segment that is looked for, each character as itself, and what has to stand beside it.
 #[derive(Drop)]
@@ -112,23 +114,67 @@ impl<'a> Wanted<'a> {
             × (IsTrue self.now.ends → IsTrue (is_outside here))) }
     {
         reached.size == self.segment.len()
-            && (!self.begins || is_outside(reached.before))
             && (!self.ends || is_outside(here))
+            && (!self.begins || is_outside(reached.before))
     }
 
-    /// Takes the next character of the value.
-    fn step(
+    /// Takes the next character of the value, where the segment goes on with it.
+    fn take(
         &self,
-        falls: &mut [usize],
-        is_made: &mut bool,
+        value: &Folded,
+        reached: Reached,
+        from: usize,
+        here: Option<char>,
+    ) -> Option<Reached>
+        requires reached { IsReached
+            value.now
+            self.now.segment.now
+            self.now.begins
+            self.now.ends
+            from
+            reached.place
+            reached.size
+            reached.before }
+        requires known { here ≡ slice_get value.now reached.place }
+        requires fits { length value.now < 2 ^ 61 }
+        ensures taken { IfSome result
+            (λ taken. (taken.place ≡ reached.place + 1)
+            × IsReached
+            value.now
+            self.now.segment.now
+            self.now.begins
+            self.now.ends
+            from
+            taken.place
+            taken.size
+            taken.before) }
+        ensures other { IfNone result
+            ((c : ℕ) → here ≡ Some c → slice_get self.now.segment.now reached.size ≡ Some c → ⊥) }
+    {
+        let Some(character) = here else {
+            return None;
+        };
+        if !goes_on(self.segment, reached.size, character) {
+            return None;
+        }
+        Some(Reached {
+            place: reached.place + 1,
+            size: reached.size + 1,
+            before: reached.before,
+        })
+    }
+
+    /// Takes the next character of the value, where the segment doesn't go on with it.
+    fn fall(
+        &self,
+        falls: &[usize],
         value: &Folded,
         reached: Reached,
         from: usize,
         here: char,
     ) -> Reached
-        requires room { length self.now.segment.now ≤ length falls.old }
-        requires made { IsTrue is_made.old
-            → AreFalls self.now.segment.now falls.old (length self.now.segment.now) }
+        requires room { length self.now.segment.now ≤ length falls.now }
+        requires made { AreFalls self.now.segment.now falls.now (length self.now.segment.now) }
         requires reached { IsReached
             value.now
             self.now.segment.now
@@ -139,6 +185,7 @@ impl<'a> Wanted<'a> {
             reached.size
             reached.before }
         requires known { slice_get value.now reached.place ≡ Some here }
+        requires other { slice_get self.now.segment.now reached.size ≡ Some here → ⊥ }
         requires fits { length value.now < 2 ^ 61 }
         requires not_served { reached.size ≡ length self.now.segment.now
             → IsEdged
@@ -148,9 +195,6 @@ impl<'a> Wanted<'a> {
             self.now.ends
             (reached.place - reached.size)
             → ⊥ }
-        ensures same_room { length falls.new ≡ length falls.old }
-        ensures made { IsTrue is_made.new
-            → AreFalls self.now.segment.now falls.new (length self.now.segment.now) }
         ensures reached { IsReached
             value.now
             self.now.segment.now
@@ -162,21 +206,138 @@ impl<'a> Wanted<'a> {
             result.before }
         ensures one { result.place ≡ reached.place + 1 }
     {
-        if goes_on(self.segment, reached.size, here) {
-            return Reached {
-                place: reached.place + 1,
-                size: reached.size + 1,
-                before: reached.before,
-            };
-        }
-        make_once(self.segment, falls, *is_made);
-        *is_made = true;
-        let size = next_state(self.segment, falls, reached.size, here);
+        let size = fallen_state(self.segment, falls, reached.size, here);
         Reached {
             place: reached.place + 1,
             size,
-            before: before_next(self.segment, reached.size, size, here),
+            before: self.before_next(reached.size, size, here),
         }
+    }
+
+    /// The character before what stands of the segment after `here`, with which it doesn't go on. It
+    /// is known where the segment has to begin at the start of a word.
+    fn before_next(&self, size: usize, next: usize, here: char) -> Option<char>
+        requires { next ≤ size }
+        ensures none { IsTrue self.now.begins → next ≡ 0 → result ≡ Some here }
+        ensures some { IsTrue self.now.begins
+            → 1 ≤ next
+            → result ≡ slice_get self.now.segment.now (size - next) }
+    {
+        if !self.begins || next == 0 {
+            return Some(here);
+        }
+        self.segment.get(size - next).copied()
+    }
+
+    /// Goes on through the value as long as something of the segment stands, up to the first place
+    /// that serves, if any. It is kept apart from its caller, so that all that its loop needs stays
+    /// in registers.
+    #[inline(never)]
+    fn follow(
+        &self,
+        falls: &[usize],
+        value: &Folded,
+        reached: Reached,
+        from: usize,
+        meter: &mut Meter,
+    ) -> ControlFlow<Option<usize>, Reached>
+        requires room { length self.now.segment.now ≤ length falls.now }
+        requires made { AreFalls self.now.segment.now falls.now (length self.now.segment.now) }
+        requires reached { IsReached
+            value.now
+            self.now.segment.now
+            self.now.begins
+            self.now.ends
+            from
+            reached.place
+            reached.size
+            reached.before }
+        requires fits { length value.now < 2 ^ 61 }
+        ensures followed { MatchControlFlow result
+            (λ lost. (reached.place ≤ lost.place)
+            × IsReached
+            value.now
+            self.now.segment.now
+            self.now.begins
+            self.now.ends
+            from
+            lost.place
+            lost.size
+            lost.before)
+            (λ found. IsFirstFrom
+            (IsEdged value.now self.now.segment.now self.now.begins self.now.ends)
+            from
+            found) }
+        ensures never_falls { meter.old ≤ meter.new }
+        ensures reads { MatchControlFlow result
+            (λ lost. meter.new + reached.place ≤ meter.old + lost.place)
+            (λ found. meter.new + (reached.place - from)
+            ≤ meter.old + passed (length self.now.segment.now) (length value.now) from found + 1) }
+    {
+        let mut counted = mem::replace(meter, Meter::new());
+        let followed = self.follow_counted(falls, value, reached, from, &mut counted);
+        *meter = counted;
+        followed
+    }
+
+    /// The same, with a meter of its own.
+    fn follow_counted(
+        &self,
+        falls: &[usize],
+        value: &Folded,
+        reached: Reached,
+        from: usize,
+        meter: &mut Meter,
+    ) -> ControlFlow<Option<usize>, Reached>
+        requires room { length self.now.segment.now ≤ length falls.now }
+        requires made { AreFalls self.now.segment.now falls.now (length self.now.segment.now) }
+        requires reached { IsReached
+            value.now
+            self.now.segment.now
+            self.now.begins
+            self.now.ends
+            from
+            reached.place
+            reached.size
+            reached.before }
+        requires fits { length value.now < 2 ^ 61 }
+        ensures followed { MatchControlFlow result
+            (λ lost. (reached.place ≤ lost.place)
+            × IsReached
+            value.now
+            self.now.segment.now
+            self.now.begins
+            self.now.ends
+            from
+            lost.place
+            lost.size
+            lost.before)
+            (λ found. IsFirstFrom
+            (IsEdged value.now self.now.segment.now self.now.begins self.now.ends)
+            from
+            found) }
+        ensures never_falls { meter.old ≤ meter.new }
+        ensures reads { MatchControlFlow result
+            (λ lost. meter.new + reached.place ≤ meter.old + lost.place)
+            (λ found. meter.new + (reached.place - from)
+            ≤ meter.old + passed (length self.now.segment.now) (length value.now) from found + 1) }
+    {
+        let mut now = reached;
+        while now.size > 0 {
+            let here = value.at(now.place, meter);
+            if let Some(taken) = self.take(value, now, from, here) {
+                now = taken;
+                continue;
+            }
+            if self.is_served(now, here) {
+                return ControlFlow::Break(Some(now.place - now.size));
+            }
+            let Some(here) = here else {
+                return ControlFlow::Break(None);
+            };
+            now = self.fall(falls, value, now, from, here);
+        }
+        ControlFlow::Continue(now)
     }
 }
 
@@ -205,18 +366,6 @@ fn make_once(segment: &[char], falls: &mut [usize], is_made: bool)
     }
 }
 
-/// The character before what stands of a segment after `here`, which doesn't go on with it.
-fn before_next(segment: &[char], size: usize, next: usize, here: char) -> Option<char>
-    requires { next ≤ size }
-    ensures none { next ≡ 0 → result ≡ Some here }
-    ensures some { 1 ≤ next → result ≡ slice_get segment.now (size - next) }
-{
-    if next == 0 {
-        return Some(here);
-    }
-    segment.get(size - next).copied()
-}
-
 /// The first place from `from` on at which the segment stands with what has to stand beside it. The
 /// value is gone through once.
 pub(crate) fn find_onward(
@@ -240,7 +389,7 @@ pub(crate) fn find_onward(
         meter.new }
     ensures same_room { length falls.new ≡ length falls.old }
 {
-    let length = value.len();
+    let _length = value.len();
     let mut is_made = false;
     let mut reached = Reached {
         place: from,
@@ -252,13 +401,23 @@ pub(crate) fn find_onward(
             return None;
         };
         let here = value.at(entered.place, meter);
+        if let Some(taken) = wanted.take(value, entered, from, here) {
+            reached = taken;
+            continue;
+        }
         if wanted.is_served(entered, here) {
             return Some(entered.place - entered.size);
         }
         let Some(here) = here else {
             return None;
         };
-        reached = wanted.step(falls, &mut is_made, value, entered, from, here);
+        make_once(wanted.segment, falls, is_made);
+        is_made = true;
+        let fallen = wanted.fall(falls, value, entered, from, here);
+        match wanted.follow(falls, value, fallen, from, meter) {
+            ControlFlow::Break(found) => return found,
+            ControlFlow::Continue(lost) => reached = lost,
+        }
     }
 }
 

@@ -1,9 +1,7 @@
 ghost use Rattle.std.specs.Prelude.{◌≡◌, ◌-◌, ◌%◌, ◌<◌, ◌==◌, false, length, replicate, slice_get, IsTrue, IfSome};
 ghost use Rattle.mx_glob.specs.Glob.{star, question};
 ghost use Rattle.mx_glob.specs.Search.{AreSkips, IsLiteral};
-ghost use Rattle.mx_glob.specs.Words.{is_outside};
 
-use crate::word::is_outside;
 use mx_json::{Folded, Meter};
 
 /// Whether a pattern is itself, without `*` and `?`.
@@ -19,11 +17,11 @@ pub(crate) fn is_literal(pattern: &Folded) -> bool
     true
 }
 
-/// Whether a pattern begins inside a word.
-pub(crate) fn begins_inside(pattern: &Folded) -> bool
-    ensures { IsTrue result → is_outside (slice_get pattern.now 0) ≡ false }
+/// Whether a pattern has a character.
+pub(crate) fn has_some(pattern: &Folded) -> bool
+    ensures { IsTrue result → 0 < length pattern.now }
 {
-    !is_outside(pattern.at(0, &mut Meter::new()))
+    !pattern.is_empty()
 }
 
 /// Whether a character of a pattern is itself.

@@ -13,7 +13,7 @@ invariant_of-result c =
       λ yes.
           elim c.if-is_literal.branch [
             | then-is_literal w ↦ record {
-              inside = w.begins_inside-is_name.ensures (sym w.is_name-is ∙ yes);
+              some = w.has_some-is_name.ensures (sym w.is_name-is ∙ yes);
               literal = c.is_literal-is_literal.ensures w.if-is_literal.true;
             }
             | else-is_literal w ↦ absurd (both_ways _ w.if-is_literal.false (sym w.is_name-is ∙ yes))
