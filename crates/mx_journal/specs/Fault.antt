@@ -10,7 +10,8 @@ number_in bytes = from_le_bytes w32 (take 4 bytes)
 -- No whole record stands here: the length or the payload ends too early, or the length is 0 or too great.
 abbrev pub LacksBody : List ℕ → Type 0
 LacksBody bytes =
-    (length bytes < 4) ⊎ ((number_in bytes ≡ 0) ⊎ ((payload_limit < number_in bytes) ⊎ (length bytes < 4 + number_in bytes)))
+    (length bytes < 4) ⊎ ((number_in bytes ≡ 0)
+    ⊎ ((payload_limit < number_in bytes) ⊎ (length bytes < 4 + number_in bytes)))
 
 -- A payload of this length stands here, behind its length.
 pub record HasBodyOf (bytes : List ℕ) (count : ℕ) : Type 0 where

@@ -18,7 +18,8 @@ abbrev pub IsStaged : List ℕ → Type 0
 IsStaged bytes = (bytes ≡ []) ⊎ (IsPayload (payload_in bytes) × (bytes ≡ staged_bytes (payload_in bytes)))
 
 -- What holds of each journal: the offset fits, and once all payloads were read its gate is closed.
-pub record HoldsJournal {D : Type 0} (seen : D → Option (List ℕ)) (disk : D) (gate : ℕ) (phase : Phase) (bytes : List ℕ) : Type 0 where
+pub record HoldsJournal {D : Type 0} (seen : D → Option (List ℕ)) (disk : D) (gate : ℕ) (phase : Phase)
+    (bytes : List ℕ) : Type 0 where
   pub staged : IsStaged bytes
   pub bounded : gate < 2 ^ 63
   pub closed : phase ≡ Writing → IfSome (seen disk) (λ content. HasClosedGate content gate)

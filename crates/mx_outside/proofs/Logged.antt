@@ -6,8 +6,8 @@ use Rattle.mx_outside.specs.Budget.{Covers}
 use Rattle.mx_outside.specs.Changes.{Change}
 use Rattle.mx_outside.specs.Changes.Change.{written, cut_to, synced}
 use Rattle.mx_outside.specs.DiskLog.{Log, log_budget, changes_after, logged_bytes, written_bytes}
-use Rattle.mx_outside.specs.declared.disk_log.Logged.{Logged}
-use Rattle.mx_outside.specs.declared.disk_log.Logged.TheVariants as logged
+use Rattle.mx_outside.specs.declared.memory.disk_log.Logged.{Logged}
+use Rattle.mx_outside.specs.declared.memory.disk_log.Logged.TheVariants as logged
 
 -- One more write.
 pub changes_after-written : (earlier : List Change) (calls : List Logged) (bytes : List ℕ) (at count : ℕ)
@@ -95,7 +95,8 @@ pub record Fits (calls : List Logged) (bytes : List ℕ) (byte_capacity call_cap
   pub calls_fit : length calls < call_capacity
 
 pub covered_fits : (calls : List Logged) (bytes : List ℕ) (byte_capacity call_capacity count : ℕ) (log : Log)
-    → record { changes = changes_after [] calls bytes; byte_capacity = byte_capacity; call_capacity = call_capacity } ≡ log
+    → record { changes = changes_after [] calls bytes; byte_capacity = byte_capacity; call_capacity = call_capacity }
+    ≡ log
     → length bytes ≡ logged_bytes calls → length bytes ≤ byte_capacity → Covers (log_budget log) count
     → Fits calls bytes byte_capacity call_capacity count
 covered_fits calls bytes byte_capacity call_capacity count log is all held covers =

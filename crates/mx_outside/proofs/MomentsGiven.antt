@@ -13,7 +13,8 @@ length-moments_given moments (suc given) =
     simp length-append (omega arith)
 
 -- One more is given, as long as their number fits a count.
-pub gives_moment : (moments : List ℕ) (given : ℕ) (moment count : ℕ) → moment ≡ moment_after moments given → count ≡ raised given → GivesMoment moment (moments_given moments given) (moments_given moments count)
+pub gives_moment : (moments : List ℕ) (given : ℕ) (moment count : ℕ) → moment ≡ moment_after moments given
+    → count ≡ raised given → GivesMoment moment (moments_given moments given) (moments_given moments count)
 gives_moment moments given moment count is rises few =
     let before : length (moments_given moments given) ≡ given = length-moments_given moments given in
     let next : count ≡ suc given = omega arith in

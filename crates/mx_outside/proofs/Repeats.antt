@@ -10,9 +10,12 @@ unfolding repeats
 repeats_lem repeated = refl
 
 -- So many of the bytes were written to the front of a buffer, and the rest is left.
-pub next_repeats : (byte times count : ℕ) (rest : List ℕ) → count ≤ times → replicate times byte ≡ take count (replicate count byte ++ rest) ++ replicate (times - count) byte
+pub next_repeats : (byte times count : ℕ) (rest : List ℕ) → count ≤ times
+    → replicate times byte ≡ take count (replicate count byte ++ rest) ++ replicate (times - count) byte
 next_repeats byte times count rest fits =
-    let front : take count (replicate count byte ++ rest) ≡ replicate count byte = take_at (replicate count byte) rest count (length-replicate count byte) in
-    let both : replicate count byte ++ replicate (times - count) byte ≡ replicate (count + (times - count)) byte = replicate-append-replicate count (times - count) byte in
+    let front : take count (replicate count byte ++ rest) ≡ replicate count byte =
+    take_at (replicate count byte) rest count (length-replicate count byte) in
+    let both : replicate count byte ++ replicate (times - count) byte ≡ replicate (count + (times - count)) byte =
+    replicate-append-replicate count (times - count) byte in
     let whole : count + (times - count) ≡ times = omega arith in
     cc

@@ -1,5 +1,6 @@
 -- What a call of a disk does to what a read gives and to the images that a crash may leave: ours.
-use Rattle.std.specs.Prelude.{◌≡◌, ℕ, ◌+◌, ◌≤◌, max, min, List, ◌++◌, length, take, drop, Result, MatchResult, OnOk, OnErr, ◌⊎◌, ◌↔◌}
+use Rattle.std.specs.Prelude.{◌≡◌, ℕ, ◌+◌, ◌≤◌, max, min, List, ◌++◌, length, take, drop, Result, MatchResult, OnOk}
+use Rattle.std.specs.Prelude.{OnErr, ◌⊎◌, ◌↔◌}
 use Rattle.mx_outside.specs.Told.{Rose}
 
 -- A list with a piece put over what stood from this place on.
@@ -65,7 +66,8 @@ pub record Elapses (before now : ℕ) (past since : ℕ → List ℕ → Type 0)
   pub keeps : (t : ℕ) (image : List ℕ) → t ≤ before → past t image → since t image
 
 -- A crash at any moment since the old state leaves an image of which P holds.
-pub record LeavesOnly {D : Type 0} (moment : D → ℕ) (left_since : D → ℕ → List ℕ → Type 0) (old new : D) (P : List ℕ → Type 0) : Type 0 where
+pub record LeavesOnly {D : Type 0} (moment : D → ℕ) (left_since : D → ℕ → List ℕ → Type 0) (old new : D)
+    (P : List ℕ → Type 0) : Type 0 where
   pub later : moment old ≤ moment new
   pub each : (image : List ℕ) → left_since new (moment old) image → P image
   -- for a run that began earlier

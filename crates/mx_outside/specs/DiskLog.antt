@@ -3,8 +3,8 @@ use Rattle.std.specs.Prelude.{ℕ, ◌+◌, ◌-◌, ◌≤◌, List, [], ◌∷
 use Rattle.mx_outside.specs.Budget.{Budget}
 use Rattle.mx_outside.specs.Changes.{Change}
 use Rattle.mx_outside.specs.Changes.Change.{written, cut_to, synced}
-use Rattle.mx_outside.specs.declared.disk_log.Logged.{Logged}
-use Rattle.mx_outside.specs.declared.disk_log.Logged.TheVariants as logged
+use Rattle.mx_outside.specs.declared.memory.disk_log.Logged.{Logged}
+use Rattle.mx_outside.specs.declared.memory.disk_log.Logged.TheVariants as logged
 
 -- What was changed, the newest first, and for how many written bytes and calls there is memory.
 pub record Log : Type 0 where

@@ -1,5 +1,6 @@
 -- What the calls of a link do to its log: ours.
-use Rattle.std.specs.Prelude.{◌≡◌, ◌≢◌, ℕ, ◌+◌, ◌<◌, ◌≤◌, Bool, true, false, List, [], ◌∷◌, ◌++◌, length, take, Option, Some, None, zero, suc}
+use Rattle.std.specs.Prelude.{◌≡◌, ◌≢◌, ℕ, ◌+◌, ◌<◌, ◌≤◌, Bool, true, false, List, [], ◌∷◌, ◌++◌, length, take, Option}
+use Rattle.std.specs.Prelude.{Some, None, zero, suc}
 use Rattle.std.specs.List.{slice_get}
 use Rattle.mx_outside.specs.declared.link.Opening.{Opening}
 use Rattle.mx_outside.specs.declared.link.Opening.TheVariants as opening

@@ -4,7 +4,8 @@ use Rattle.mx_outside.specs.Changes.{MayLeave}
 use Rattle.mx_outside.specs.MemoryDisk.{Medium, MayLeaveNow, moment_of, LeftSince}
 
 -- What it may leave now it might have left since any moment.
-pub counts_now : (disk : Medium) (t : ℕ) (image : List ℕ) → t ≤ moment_of disk → MayLeaveNow disk image → LeftSince disk t image
+pub counts_now : (disk : Medium) (t : ℕ) (image : List ℕ) → t ≤ moment_of disk → MayLeaveNow disk image
+    → LeftSince disk t image
 counts_now disk t image upto left = record { ago = 0; since = omega arith; left = left }
 
 -- Since now it leaves what it may leave now.

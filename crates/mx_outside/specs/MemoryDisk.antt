@@ -5,8 +5,8 @@ use Rattle.mx_outside.specs.Budget.{Budget}
 use Rattle.mx_outside.specs.Changes.{Change, content_of, synced_of, fresh_of, filled, AreChanges, MayLeave}
 use Rattle.mx_outside.specs.DiskLog.{Log, written_bytes}
 use Rattle.mx_outside.specs.DiskImage.{Image}
-use Rattle.mx_outside.specs.declared.fill.Fill.{Fill}
-use Rattle.mx_outside.specs.declared.fill.Fill.TheVariants as fill
+use Rattle.mx_outside.specs.declared.memory.fill.Fill.{Fill}
+use Rattle.mx_outside.specs.declared.memory.fill.Fill.TheVariants as fill
 
 -- What it had first, what its calls changed, the newest first, for how many written bytes and changes
 -- there is memory, and the count of faults.

@@ -1,7 +1,7 @@
 -- How the other side of an exchange goes by a script: ours.
 use Rattle.std.specs.Prelude.{ℕ, Bool, false, List, [], ◌∷◌, length, take, drop, Option, Some, None, zero, suc}
-use Rattle.mx_outside.specs.declared.script.LinkStep.{LinkStep}
-use Rattle.mx_outside.specs.declared.script.LinkStep.TheVariants as step
+use Rattle.mx_outside.specs.declared.memory.script.LinkStep.{LinkStep}
+use Rattle.mx_outside.specs.declared.memory.script.LinkStep.TheVariants as step
 
 -- What comes next of the other side: these bytes, a wait, the end, or a failure.
 pub data Step : Type 0 where

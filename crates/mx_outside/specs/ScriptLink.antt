@@ -1,5 +1,6 @@
 -- A link that answers by scripts: ours.
-use Rattle.std.specs.Prelude.{◌≡◌, ℕ, ◌+◌, ◌-◌, ◌<◌, ◌≤◌, min, Bool, true, false, List, [], ◌∷◌, ◌++◌, length, take, drop, map, Option, Some, None, slice_set, ◌⊎◌, slice_get, replicate}
+use Rattle.std.specs.Prelude.{◌≡◌, ℕ, ◌+◌, ◌-◌, ◌<◌, ◌≤◌, min, Bool, true, false, List, [], ◌∷◌, ◌++◌, length, take}
+use Rattle.std.specs.Prelude.{drop, map, Option, Some, None, slice_set, ◌⊎◌, slice_get, replicate}
 use Rattle.mx_outside.specs.Told.{raised}
 use Rattle.mx_outside.specs.Link.{Entry, fresh, with_sent, with_received, with_failed, with_ended, with_closed}
 use Rattle.mx_outside.specs.Script.{Play, unscripted, next_of, next_bytes, with_bytes}
@@ -9,8 +10,8 @@ use Rattle.mx_outside.specs.declared.link.Sent.{Sent}
 use Rattle.mx_outside.specs.declared.link.Sent.TheVariants as sent
 use Rattle.mx_outside.specs.declared.link.Received.{Received}
 use Rattle.mx_outside.specs.declared.link.Received.TheVariants as received
-use Rattle.mx_outside.specs.declared.script.LinkStep.{LinkStep}
-use Rattle.mx_outside.specs.declared.script.LinkStep.TheVariants as step
+use Rattle.mx_outside.specs.declared.memory.script.LinkStep.{LinkStep}
+use Rattle.mx_outside.specs.declared.memory.script.LinkStep.TheVariants as step
 
 -- An exchange of a scripted link: what the log has for it, what comes next of the other side, and
 -- for how many bytes there is memory.
@@ -115,13 +116,15 @@ UsesStep old new = new.play ≡ record old.play { steps = drop 1 old.play.steps 
 -- takes the piece whole. It fails for want of memory only past its room.
 abbrev pub SendsPlace : Sent → List ℕ → Place → Place → Type 0
 SendsPlace (sent.Moved count) piece old new =
-    LetsSend (next_of old.play.steps) × (count ≡ length piece) × (new.entry ≡ with_sent piece old.entry) × (new.play ≡ old.play) × KeepsRoom old new
+    LetsSend (next_of old.play.steps) × (count ≡ length piece) × (new.entry ≡ with_sent piece old.entry)
+    × (new.play ≡ old.play) × KeepsRoom old new
 SendsPlace sent.NotYet piece old new =
     (next_of old.play.steps ≡ Some step.Wait) × (new.entry ≡ old.entry) × UsesStep old new × KeepsRoom old new
 SendsPlace sent.Failed piece old new =
     (new.entry ≡ with_failed old.entry) × KeepsRoom old new
     × (((next_of old.play.steps ≡ Some step.Fail) × UsesStep old new)
-    ⊎ (LetsSend (next_of old.play.steps) × (new.play ≡ old.play) × (old.sent_room < length old.entry.sent + length piece)))
+    ⊎ (LetsSend (next_of old.play.steps) × (new.play ≡ old.play)
+    × (old.sent_room < length old.entry.sent + length piece)))
 
 -- So many of the bytes that come next were used up.
 abbrev pub UsesBytes : ℕ → Place → Place → Type 0
@@ -142,13 +145,15 @@ ReceivesPlace (received.Bytes count) into old new =
     × (new.entry ≡ with_received (take count into) old.entry) × UsesBytes count old new × KeepsRoom old new
 ReceivesPlace received.NotYet into old new =
     (new.entry ≡ old.entry) × KeepsRoom old new
-    × (((next_of old.play.steps ≡ None) × (new.play ≡ old.play)) ⊎ ((next_of old.play.steps ≡ Some step.Wait) × UsesStep old new))
+    × (((next_of old.play.steps ≡ None) × (new.play ≡ old.play))
+    ⊎ ((next_of old.play.steps ≡ Some step.Wait) × UsesStep old new))
 ReceivesPlace received.End into old new =
     (next_of old.play.steps ≡ Some step.End) × (new.entry ≡ with_ended old.entry) × UsesStep old new × KeepsRoom old new
 ReceivesPlace received.Failed into old new =
     (new.entry ≡ with_failed old.entry) × KeepsRoom old new
     × (((next_of old.play.steps ≡ Some step.Fail) × UsesStep old new)
-    ⊎ ((0 < length (next_bytes old.play.steps)) × (new.play ≡ old.play) × (old.received_room < length old.entry.received + fitting old (length into))))
+    ⊎ ((0 < length (next_bytes old.play.steps)) × (new.play ≡ old.play)
+    × (old.received_room < length old.entry.received + fitting old (length into))))
 
 -- Of the exchanges only that of this number changed, and so.
 pub record Acts (number : ℕ) (P : Place → Place → Type 0) (old new : Scripted) : Type 0 where

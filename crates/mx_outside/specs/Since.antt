@@ -39,7 +39,8 @@ IsUntouched (range ∷ ranges) place =
 pub record IsImage (since : Since) (image : List ℕ) : Type 0 where
   pub no_shorter : since.least ≤ length image
   pub no_longer : length image ≤ since.greatest
-  pub same : (place : ℕ) → place < since.least → IsUntouched since.ranges place → slice_index image place ≡ slice_index since.kept place
+  pub same : (place : ℕ) → place < since.least → IsUntouched since.ranges place
+      → slice_index image place ≡ slice_index since.kept place
 
 -- The images that a crash may leave are exactly these.
 abbrev pub LeavesImages : List Change → List ℕ → Type 0

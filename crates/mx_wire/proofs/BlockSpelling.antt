@@ -1,5 +1,6 @@
 -- That blocks are read exactly as they are spelled.
-use Rattle.std.proofs.Common.{◌≡◌, ◌≢◌, ℕ, Bool, true, false, ◌==◌, List, [], ◌∷◌, ◌++◌, Some, None, refl, ap, sym, subst, ◌∙◌, append_assoc, append-nil, inl, inr}
+use Rattle.std.proofs.Common.{◌≡◌, ◌≢◌, ℕ, Bool, true, false, ◌==◌, List, [], ◌∷◌, ◌++◌, Some, None, refl, ap, sym}
+use Rattle.std.proofs.Common.{subst, ◌∙◌, append_assoc, append-nil, inl, inr}
 use Rattle.std.specs.Prelude.{if◌then◌else◌}
 use Rattle.std.proofs.lemmas.Bool.Decides.{Decides-eqb}
 use Rattle.mx_wire.specs.Reading.Reading.{Got}
@@ -18,9 +19,11 @@ run place (b ∷ text) = run (place_after place b) text
 after-other : (place : InLine) (b : ℕ) → (b == 10) ≡ false → place_after place b ≡ within_line place b
 after-other place b other = ap (λ (t : Bool). if t then Start else within_line place b) other
 
-next-other : (behind : Bool) (place : InLine) (b : ℕ) → (b == 10) ≡ false → Some (behind, place_after place b) ≡ next_in_block behind place b
+next-other : (behind : Bool) (place : InLine) (b : ℕ) → (b == 10) ≡ false
+    → Some (behind, place_after place b) ≡ next_in_block behind place b
 next-other true Start b other = ap (λ (t : Bool). if t then None else Some (true, place_after Start b)) (sym other)
-next-other true BehindCr b other = ap (λ (t : Bool). if t then None else Some (true, place_after BehindCr b)) (sym other)
+next-other true BehindCr b other = ap (λ (t : Bool). if t then None else Some (true, place_after BehindCr b))
+    (sym other)
 next-other true Inside b other = refl
 next-other false Start b other = refl
 next-other false BehindCr b other = refl
@@ -28,7 +31,8 @@ next-other false Inside b other = ap (λ (t : Bool). Some (t, place_after Inside
 
 step-other : (held : List ℕ) (behind : Bool) (place : InLine) (b : ℕ) (u : List ℕ) → (b == 10) ≡ false
     → block_from held behind place (b ∷ u) ≡ block_from (held ++ b ∷ []) behind (place_after place b) u
-step-other held behind place b u other = block_goes held behind place b (behind, place_after place b) u (next-other behind place b other)
+step-other held behind place b u other =
+    block_goes held behind place b (behind, place_after place b) u (next-other behind place b other)
 
 -- A text without a line feed is read.
 text-read : (text : List ℕ) → IsOneLine text → (held : List ℕ) (behind : Bool) (place : InLine) (v : List ℕ)
@@ -134,11 +138,13 @@ rest-read behind block (blank_line line rest (inr empty) are is) held v =
     ∙ ap (λ (l : List ℕ). Got (held ++ l) v) (sym whole)
 rest-read behind block (full_line line rest full are is) held v =
     let text = full.text in
-    let whole : block ≡ text ++ 10 ∷ rest = is ∙ ap (λ (l : List ℕ). l ++ rest) full.is ∙ append_assoc text (10 ∷ []) rest in
+    let whole : block ≡ text ++ 10 ∷ rest = is ∙ ap (λ (l : List ℕ). l ++ rest) full.is
+    ∙ append_assoc text (10 ∷ []) rest in
     ap (λ (l : List ℕ). block_from held behind Start (l ++ v)) whole
     ∙ ap (λ (l : List ℕ). block_from held behind Start l) (append_assoc text (10 ∷ rest) v)
     ∙ text-read text full.one held behind Start (10 ∷ (rest ++ v))
-    ∙ ap (λ (p : InLine). block_from (held ++ text) behind p (10 ∷ (rest ++ v))) (full-inside text full.one full.some full.other)
+    ∙ ap (λ (p : InLine). block_from (held ++ text) behind p (10 ∷ (rest ++ v)))
+    (full-inside text full.one full.some full.other)
     ∙ block_goes (held ++ text) behind Inside 10 (true, Start) (rest ++ v) (goes behind)
     ∙ rest-read true rest are (held ++ text ++ 10 ∷ []) v
     ∙ ap (λ (l : List ℕ). Got (l ++ rest) v) (append_assoc held text (10 ∷ []))
@@ -201,7 +207,8 @@ spelled-blank line held u block rest empty s =
     }
 
 -- A line feed ends the block.
-spelled-end : (line held u block rest : List ℕ) → IsEmptyLine (line ++ 10 ∷ []) → Got (held ++ 10 ∷ []) u ≡ Got block rest
+spelled-end : (line held u block rest : List ℕ) → IsEmptyLine (line ++ 10 ∷ [])
+    → Got (held ++ 10 ∷ []) u ≡ Got block rest
     → Spelled true line held (10 ∷ u) block rest
 spelled-end line held u block rest empty got =
     record {
@@ -238,26 +245,36 @@ one-more [] b one other = (other, tt)
 one-more (c ∷ line) b one other = (one.0, one-more line b one.1 other)
 
 -- A line feed, by where in a line and behind what it stands.
-feed-spelled : (behind : Bool) (place : InLine) (line held u block rest : List ℕ) → IsOneLine line → run Start line ≡ place
-    → ((t : Bool) → block_from (held ++ 10 ∷ []) t Start u ≡ Got block rest → Spelled t [] (held ++ 10 ∷ []) u block rest)
+feed-spelled : (behind : Bool) (place : InLine) (line held u block rest : List ℕ) → IsOneLine line
+    → run Start line ≡ place
+    → ((t : Bool) → block_from (held ++ 10 ∷ []) t Start u ≡ Got block rest
+    → Spelled t [] (held ++ 10 ∷ []) u block rest)
     → block_from held behind place (10 ∷ u) ≡ Got block rest → Spelled behind line held (10 ∷ u) block rest
 feed-spelled true Inside line held u block rest one here goes got =
-    spelled-full true line held u block rest (full-here line one here) (goes true (sym (block_goes held true Inside 10 (true, Start) u refl) ∙ got))
+    spelled-full true line held u block rest (full-here line one here)
+    (goes true (sym (block_goes held true Inside 10 (true, Start) u refl) ∙ got))
 feed-spelled false Inside line held u block rest one here goes got =
-    spelled-full false line held u block rest (full-here line one here) (goes true (sym (block_goes held false Inside 10 (true, Start) u refl) ∙ got))
+    spelled-full false line held u block rest (full-here line one here)
+    (goes true (sym (block_goes held false Inside 10 (true, Start) u refl) ∙ got))
 feed-spelled true Start line held u block rest one here goes got =
-    spelled-end line held u block rest (empty-start line (kind-start line one here)) (sym (block_stops held true Start 10 u refl) ∙ got)
+    spelled-end line held u block rest (empty-start line (kind-start line one here))
+    (sym (block_stops held true Start 10 u refl) ∙ got)
 feed-spelled true BehindCr line held u block rest one here goes got =
-    spelled-end line held u block rest (empty-cr line (kind-cr line one here)) (sym (block_stops held true BehindCr 10 u refl) ∙ got)
+    spelled-end line held u block rest (empty-cr line (kind-cr line one here))
+    (sym (block_stops held true BehindCr 10 u refl) ∙ got)
 feed-spelled false Start line held u block rest one here goes got =
-    spelled-blank line held u block rest (empty-start line (kind-start line one here)) (goes false (sym (block_goes held false Start 10 (false, Start) u refl) ∙ got))
+    spelled-blank line held u block rest (empty-start line (kind-start line one here))
+    (goes false (sym (block_goes held false Start 10 (false, Start) u refl) ∙ got))
 feed-spelled false BehindCr line held u block rest one here goes got =
-    spelled-blank line held u block rest (empty-cr line (kind-cr line one here)) (goes false (sym (block_goes held false BehindCr 10 (false, Start) u refl) ∙ got))
+    spelled-blank line held u block rest (empty-cr line (kind-cr line one here))
+    (goes false (sym (block_goes held false BehindCr 10 (false, Start) u refl) ∙ got))
 
 -- A byte, by whether it is a line feed.
 byte-spelled : (t : Bool) (b : ℕ) (behind : Bool) (line held u block rest : List ℕ) → (b == 10) ≡ t → IsOneLine line
-    → ((t : Bool) → block_from (held ++ 10 ∷ []) t Start u ≡ Got block rest → Spelled t [] (held ++ 10 ∷ []) u block rest)
-    → (IsOneLine (line ++ b ∷ []) → block_from (held ++ b ∷ []) behind (run Start (line ++ b ∷ [])) u ≡ Got block rest → Spelled behind (line ++ b ∷ []) (held ++ b ∷ []) u block rest)
+    → ((t : Bool) → block_from (held ++ 10 ∷ []) t Start u ≡ Got block rest
+    → Spelled t [] (held ++ 10 ∷ []) u block rest)
+    → (IsOneLine (line ++ b ∷ []) → block_from (held ++ b ∷ []) behind (run Start (line ++ b ∷ [])) u ≡ Got block rest
+    → Spelled behind (line ++ b ∷ []) (held ++ b ∷ []) u block rest)
     → block_from held behind (run Start line) (b ∷ u) ≡ Got block rest → Spelled behind line held (b ∷ u) block rest
 byte-spelled true b behind line held u block rest is one ends goes got =
     let feed : b ≡ 10 = (Decides-eqb b 10).0 is in
@@ -270,7 +287,8 @@ byte-spelled false b behind line held u block rest is one ends goes got =
     (ap (λ (p : InLine). block_from (held ++ b ∷ []) behind p u) (run-append line Start b)
     ∙ sym (step-other held behind (run Start line) b u is) ∙ got))
 
-nothing-got : (held : List ℕ) (behind : Bool) (place : InLine) (block rest : List ℕ) → block_from held behind place [] ≡ Got block rest → ⊥
+nothing-got : (held : List ℕ) (behind : Bool) (place : InLine) (block rest : List ℕ)
+    → block_from held behind place [] ≡ Got block rest → ⊥
 unfolding block_from
 nothing-got held behind place block rest got = cc
 
@@ -279,12 +297,17 @@ rest-spelled : (u held line : List ℕ) (behind : Bool) (block rest : List ℕ) 
 rest-spelled [] held line behind block rest one got = absurd (nothing-got held behind (run Start line) block rest got)
 rest-spelled (b ∷ u) held line behind block rest one got =
     byte-spelled (b == 10) b behind line held u block rest refl one
-    (λ t next. rest-spelled u (held ++ 10 ∷ []) [] t block rest tt (ap (λ (p : InLine). block_from (held ++ 10 ∷ []) t p u) kind-none ∙ next))
+    (λ t next. rest-spelled u (held ++ 10 ∷ []) [] t block rest tt
+    (ap (λ (p : InLine). block_from (held ++ 10 ∷ []) t p u) kind-none ∙ next))
     (λ more next. rest-spelled u (held ++ b ∷ []) (line ++ b ∷ []) behind block rest more next)
     got
 
 -- What is read as a block is one, and stands at the front of the bytes.
-pub block-spelled : (bytes block rest : List ℕ) → block_at bytes ≡ Got block rest → (bytes ≡ block ++ rest) × IsBlock block
+pub block-spelled : (bytes block rest : List ℕ) → block_at bytes ≡ Got block rest
+    → (bytes ≡ block ++ rest) × IsBlock block
 block-spelled bytes block rest got =
-    let s = rest-spelled bytes [] [] false block rest tt (ap (λ (p : InLine). block_from [] false p bytes) kind-none ∙ got) in
-    (s.front ∙ ap (λ (l : List ℕ). l ++ rest) (sym s.whole), subst (λ (l : List ℕ). IsBlockRest false l) (sym s.whole) s.is)
+    let s = rest-spelled bytes [] [] false block rest tt
+    (ap (λ (p : InLine). block_from [] false p bytes) kind-none ∙ got) in (
+      s.front ∙ ap (λ (l : List ℕ). l ++ rest) (sym s.whole),
+      subst (λ (l : List ℕ). IsBlockRest false l) (sym s.whole) s.is,
+    )

@@ -1,9 +1,11 @@
 -- That bytes are lacking only where some further bytes make what is read.
-use Rattle.std.proofs.Common.{◌≡◌, ℕ, zero, suc, ◌+◌, ◌*◌, Bool, true, false, ◌==◌, nat_lt, List, [], ◌∷◌, ◌++◌, Option, Some, None, refl, arith}
+use Rattle.std.proofs.Common.{◌≡◌, ℕ, zero, suc, ◌+◌, ◌*◌, Bool, true, false, ◌==◌, nat_lt, List, [], ◌∷◌, ◌++◌, Option}
+use Rattle.std.proofs.Common.{Some, None, refl, arith}
 use Rattle.std.proofs.lemmas.Bool.Decides.{Decides-ltb}
 use Rattle.mx_wire.specs.Reading.{Reading}
 use Rattle.mx_wire.specs.Reading.Reading.{Got, Refused, Lacking}
-use Rattle.mx_wire.specs.Bodies.{hex_value, begins_extension, feed, crlf, extension, after_digits, digits, size_line, trailer}
+use Rattle.mx_wire.specs.Bodies.{hex_value, begins_extension, feed, crlf, extension, after_digits, digits, size_line}
+use Rattle.mx_wire.specs.Bodies.{trailer}
 use Rattle.mx_wire.specs.Laws.{RefusesExactly}
 use Rattle.mx_wire.specs.declared.line.InLine.{InLine}
 use Rattle.mx_wire.specs.declared.line.InLine.TheVariants.{Start, BehindCr, Inside}
@@ -37,14 +39,17 @@ extension-fills n (b ∷ u) =
     test-fills (b == 13) (feed n u) (elim (b == 10) [ true ↦ Refused | false ↦ extension n u ])
     (λ more. feed n (u ++ more)) (λ more. elim (b == 10) [ true ↦ Refused | false ↦ extension n (u ++ more) ])
     (feed-fills n u)
-    (test-fills (b == 10) Refused (extension n u) (λ more. Refused) (λ more. extension n (u ++ more)) tt (extension-fills n u))
+    (test-fills (b == 10) Refused (extension n u) (λ more. Refused) (λ more. extension n (u ++ more)) tt
+    (extension-fills n u))
 
 after_digits-fills : (n b : ℕ) (u : List ℕ) → Fills (after_digits n b u) (λ more. after_digits n b (u ++ more))
 after_digits-fills n b u =
     test-fills (b == 13) (feed n u) (elim (begins_extension b) [ true ↦ extension n u | false ↦ Refused ])
-    (λ more. feed n (u ++ more)) (λ more. elim (begins_extension b) [ true ↦ extension n (u ++ more) | false ↦ Refused ])
+    (λ more. feed n (u ++ more)) (λ more. elim (begins_extension b)
+    [ true ↦ extension n (u ++ more) | false ↦ Refused ])
     (feed-fills n u)
-    (test-fills (begins_extension b) (extension n u) Refused (λ more. extension n (u ++ more)) (λ more. Refused) (extension-fills n u) tt)
+    (test-fills (begins_extension b) (extension n u) Refused (λ more. extension n (u ++ more)) (λ more. Refused)
+    (extension-fills n u) tt)
 
 -- What is read from a byte on, by its value as a digit.
 abbrev from_value : ℕ → ℕ → ℕ → List ℕ → Option ℕ → Reading ℕ
@@ -58,9 +63,11 @@ value-fills : (count n b : ℕ) (u : List ℕ) (value : Option ℕ)
     → ((d : ℕ) → Fills (digits (count + 1) (16 * n + d) u) (λ more. digits (count + 1) (16 * n + d) (u ++ more)))
     → Fills (from_value count n b u value) (λ more. from_value count n b (u ++ more) value)
 value-fills count n b u (Some d) goes =
-    test-fills (nat_lt count 8) (digits (count + 1) (16 * n + d) u) Refused (λ more. digits (count + 1) (16 * n + d) (u ++ more)) (λ more. Refused) (goes d) tt
+    test-fills (nat_lt count 8) (digits (count + 1) (16 * n + d) u) Refused
+    (λ more. digits (count + 1) (16 * n + d) (u ++ more)) (λ more. Refused) (goes d) tt
 value-fills count n b u None goes =
-    test-fills (nat_lt 0 count) (after_digits n b u) Refused (λ more. after_digits n b (u ++ more)) (λ more. Refused) (after_digits-fills n b u) tt
+    test-fills (nat_lt 0 count) (after_digits n b u) Refused (λ more. after_digits n b (u ++ more)) (λ more. Refused)
+    (after_digits-fills n b u) tt
 
 when-true : (t : Bool) (r s : Reading ℕ) → t ≡ true → elim t [ true ↦ r | false ↦ s ] ≡ r
 when-true true r s is = refl
@@ -84,16 +91,21 @@ trailer-fills (b ∷ u) Start =
     test-fills (b == 13) (feed none u) (elim (b == 10) [ true ↦ Refused | false ↦ trailer Inside u ])
     (λ more. feed none (u ++ more)) (λ more. elim (b == 10) [ true ↦ Refused | false ↦ trailer Inside (u ++ more) ])
     (feed-fills none u)
-    (test-fills (b == 10) Refused (trailer Inside u) (λ more. Refused) (λ more. trailer Inside (u ++ more)) tt (trailer-fills u Inside))
+    (test-fills (b == 10) Refused (trailer Inside u) (λ more. Refused) (λ more. trailer Inside (u ++ more)) tt
+    (trailer-fills u Inside))
 trailer-fills (b ∷ u) BehindCr =
-    test-fills (b == 10) (trailer Start u) Refused (λ more. trailer Start (u ++ more)) (λ more. Refused) (trailer-fills u Start) tt
+    test-fills (b == 10) (trailer Start u) Refused (λ more. trailer Start (u ++ more)) (λ more. Refused)
+    (trailer-fills u Start) tt
 trailer-fills (b ∷ u) Inside =
     test-fills (b == 13) (trailer BehindCr u) (elim (b == 10) [ true ↦ Refused | false ↦ trailer Inside u ])
-    (λ more. trailer BehindCr (u ++ more)) (λ more. elim (b == 10) [ true ↦ Refused | false ↦ trailer Inside (u ++ more) ])
+    (λ more. trailer BehindCr (u ++ more)) (λ more.
+    elim (b == 10) [ true ↦ Refused | false ↦ trailer Inside (u ++ more) ])
     (trailer-fills u BehindCr)
-    (test-fills (b == 10) Refused (trailer Inside u) (λ more. Refused) (λ more. trailer Inside (u ++ more)) tt (trailer-fills u Inside))
+    (test-fills (b == 10) Refused (trailer Inside u) (λ more. Refused) (λ more. trailer Inside (u ++ more)) tt
+    (trailer-fills u Inside))
 
-filled : {A : Type 0} (r : Reading A) (f : List ℕ → Reading A) → Fills r f → r ≡ Lacking → (more : List ℕ) × (a : A) × (f more ≡ Got a [])
+filled : {A : Type 0} (r : Reading A) (f : List ℕ → Reading A) → Fills r f → r ≡ Lacking
+    → (more : List ℕ) × (a : A) × (f more ≡ Got a [])
 filled (Got a rest) f fills is = cc
 filled Refused f fills is = cc
 filled Lacking f fills is = fills

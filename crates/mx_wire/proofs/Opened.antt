@@ -9,7 +9,8 @@ last-entry (first ∷ []) e = refl
 last-entry (first ∷ second ∷ log) e = last-entry (second ∷ log) e
 
 -- The exchange of the number that was answered is open.
-pub opened_is_open : (number : ℕ) (address : List ℕ) (old new : List Entry) → Opens (opening.Opened number) address old new → IsOpen new number
+pub opened_is_open : (number : ℕ) (address : List ℕ) (old new : List Entry)
+    → Opens (opening.Opened number) address old new → IsOpen new number
 opened_is_open number address old new opens =
     let e = fresh address false in
     record {

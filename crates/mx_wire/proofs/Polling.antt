@@ -1,5 +1,6 @@
 -- What one poll did, by what its call of the link answered.
-use Rattle.std.proofs.Common.{◌≡◌, ℕ, ◌+◌, ◌≤◌, false, List, length, take, drop, Option, Some, None, refl, ap, sym, subst, ◌∙◌, append-nil, add-zero, arith}
+use Rattle.std.proofs.Common.{◌≡◌, ℕ, ◌+◌, ◌≤◌, false, List, length, take, drop, Option, Some, None, refl, ap, sym}
+use Rattle.std.proofs.Common.{subst, ◌∙◌, append-nil, add-zero, arith}
 use Rattle.std.specs.Prelude.{IfSome}
 use Rattle.std.proofs.lemmas.List.{length-drop, length-take-le}
 use Rattle.mx_outside.specs.Told.{WhereTold}
@@ -35,7 +36,8 @@ polls_sends before now old count piece going within is moved log =
     }
 
 -- Some of the reply was received.
-pub polls_gets : (before now : Option (List Entry)) (old new : Standing) (result : Turn) (count : ℕ) (window piece : List ℕ)
+pub polls_gets : (before now : Option (List Entry)) (old new : Standing) (result : Turn) (count : ℕ)
+    (window piece : List ℕ)
     → old.sent ≡ length old.request → length old.received + count ≤ greatest_reply
     → IsReceived (received.Bytes count) (length window) → piece ≡ take count window
     → WhereTold before now (Receives (received.Bytes count) old.number window) → Heard (gets piece) old new result
@@ -58,7 +60,8 @@ polls_gets before now old new result count window piece sent room given is log h
     }
 
 -- An open exchange stays open where its entry keeps both marks.
-changed-open : (number : ℕ) (change : Entry → Entry) (before now : List Entry) → Changes number change before now → ((e : Entry) → ((change e).unopened ≡ e.unopened) × ((change e).closed ≡ e.closed))
+changed-open : (number : ℕ) (change : Entry → Entry) (before now : List Entry) → Changes number change before now
+    → ((e : Entry) → ((change e).unopened ≡ e.unopened) × ((change e).closed ≡ e.closed))
     → IsOpen before number → IsOpen now number
 changed-open number change before now changes keeps was =
     record {
@@ -68,7 +71,8 @@ changed-open number change before now changes keeps was =
       going = (keeps was.entry).1 ∙ was.going;
     }
 
-call-open : (call : Call) (s : Standing) (before now : List Entry) → Logs call s before now → IsOpen before s.number → IsOpen now s.number
+call-open : (call : Call) (s : Standing) (before now : List Entry) → Logs call s before now → IsOpen before s.number
+    → IsOpen now s.number
 call-open idle s before now logs was = subst (λ (l : List Entry). IsOpen l s.number) (sym logs) was
 call-open (sends n) s before now logs was = changed-open s.number _ before now logs (λ e. (refl, refl)) was
 call-open (gets bytes) s before now logs was = changed-open s.number _ before now logs (λ e. (refl, refl)) was
@@ -84,7 +88,9 @@ told-open call s (Some before) None told was = tt
 told-open call s (Some before) (Some now) told was = call-open call s before now told was
 
 -- The exchange is open after a poll as it was before.
-pub polls_open : (before now : Option (List Entry)) (old new : Standing) (result : Turn) → Polls before now old new result
+pub polls_open : (before now : Option (List Entry)) (old new : Standing) (result : Turn)
+    → Polls before now old new result
     → IfSome before (λ log. IsOpen log old.number) → IfSome now (λ log. IsOpen log new.number)
 polls_open before now old new result polls was =
-    subst (λ (n : ℕ). IfSome now (λ log. IsOpen log n)) (sym polls.does.number) (told-open polls.call old before now polls.does.log was)
+    subst (λ (n : ℕ). IfSome now (λ log. IsOpen log n)) (sym polls.does.number)
+    (told-open polls.call old before now polls.does.log was)

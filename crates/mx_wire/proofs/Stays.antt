@@ -1,9 +1,11 @@
 -- That what is read stays where more bytes come.
-use Rattle.std.proofs.Common.{◌≡◌, ℕ, zero, suc, ◌+◌, ◌*◌, ◌<◌, Bool, true, false, ◌==◌, ◌&&◌, ◌||◌, nat_lt, List, [], ◌∷◌, ◌++◌, length, Option, Some, None, refl, ap, sym, subst, ◌∙◌, arith}
+use Rattle.std.proofs.Common.{◌≡◌, ℕ, zero, suc, ◌+◌, ◌*◌, ◌<◌, Bool, true, false, ◌==◌, ◌&&◌, ◌||◌, nat_lt, List, []}
+use Rattle.std.proofs.Common.{◌∷◌, ◌++◌, length, Option, Some, None, refl, ap, sym, subst, ◌∙◌, arith}
 use Rattle.mx_wire.specs.Reading.{Reading, ◌>>=◌, with_front}
 use Rattle.mx_wire.specs.Reading.Reading.{Got, Refused, Lacking}
 use Rattle.mx_wire.specs.Blocks.{block_from, block_at, ends_empty, ends_full, place_after}
-use Rattle.mx_wire.specs.Bodies.{hex_value, begins_extension, feed, crlf, extension, after_digits, digits, size_line, counted, trailer, after_size, chunked}
+use Rattle.mx_wire.specs.Bodies.{hex_value, begins_extension, feed, crlf, extension, after_digits, digits, size_line}
+use Rattle.mx_wire.specs.Bodies.{counted, trailer, after_size, chunked}
 use Rattle.mx_wire.specs.Reply.{Outcome, reply_with, body_of, ReadsFrom, Reads}
 use Rattle.mx_wire.specs.Reply.Outcome.{NotReply}
 use Rattle.mx_wire.specs.Reply.ReadsFrom.{no_block, no_head, interim, final}
@@ -25,13 +27,15 @@ test-stays : {A : Type 0} (more : List ℕ) (t : Bool) (r s r' s' : Reading A) �
 test-stays more true r s r' s' first second = first
 test-stays more false r s r' s' first second = second
 
-front-stays : (more front : List ℕ) (r r' : Reading (List ℕ)) → Stays more r r' → Stays more (with_front front r) (with_front front r')
+front-stays : (more front : List ℕ) (r r' : Reading (List ℕ)) → Stays more r r'
+    → Stays more (with_front front r) (with_front front r')
 front-stays more front (Got bytes rest) r' stays = ap (λ x. with_front front x) stays
 front-stays more front Refused r' stays = ap (λ x. with_front front x) stays
 front-stays more front Lacking r' stays = tt
 
 -- What goes on behind what was read.
-bind-stays : {A B : Type 0} (more : List ℕ) (n : ℕ) (r r' : Reading A) (f : A × List ℕ → Reading B) → Below n r → Stays more r r'
+bind-stays : {A B : Type 0} (more : List ℕ) (n : ℕ) (r r' : Reading A) (f : A × List ℕ → Reading B) → Below n r
+    → Stays more r r'
     → ((a : A) (rest : List ℕ) → length rest < n → Stays more (f (a, rest)) (f (a, rest ++ more)))
     → Stays more (r >>= f) (r' >>= f)
 bind-stays more n (Got a rest) r' f below stays goes =
@@ -53,23 +57,42 @@ extension-stays : (more : List ℕ) (n : ℕ) (u : List ℕ) → Stays more (ext
 unfolding extension
 extension-stays more n [] = tt
 extension-stays more n (b ∷ u) =
-    test-stays more (b == 13) (feed n u) (elim (b == 10) [ true ↦ Refused | false ↦ extension n u ]) (feed n (u ++ more)) (elim (b == 10) [ true ↦ Refused | false ↦ extension n (u ++ more) ])
+    test-stays more (b == 13) (feed n u) (elim (b == 10) [ true ↦ Refused | false ↦ extension n u ])
+    (feed n (u ++ more)) (elim (b == 10) [ true ↦ Refused | false ↦ extension n (u ++ more) ])
     (feed-stays more n u)
-    (test-stays more (b == 10) Refused (extension n u) Refused (extension n (u ++ more)) refl (extension-stays more n u))
+    (test-stays more (b == 10) Refused (extension n u) Refused (extension n (u ++ more)) refl
+    (extension-stays more n u))
 
-after_digits-stays : (more : List ℕ) (n b : ℕ) (u : List ℕ) → Stays more (after_digits n b u) (after_digits n b (u ++ more))
+after_digits-stays : (more : List ℕ) (n b : ℕ) (u : List ℕ)
+    → Stays more (after_digits n b u) (after_digits n b (u ++ more))
 after_digits-stays more n b u =
-    test-stays more (b == 13) (feed n u) (elim (begins_extension b) [ true ↦ extension n u | false ↦ Refused ]) (feed n (u ++ more)) (elim (begins_extension b) [ true ↦ extension n (u ++ more) | false ↦ Refused ])
+    test-stays more (b == 13) (feed n u) (elim (begins_extension b) [ true ↦ extension n u | false ↦ Refused ])
+    (feed n (u ++ more)) (elim (begins_extension b) [ true ↦ extension n (u ++ more) | false ↦ Refused ])
     (feed-stays more n u)
-    (test-stays more (begins_extension b) (extension n u) Refused (extension n (u ++ more)) Refused (extension-stays more n u) refl)
+    (test-stays more (begins_extension b) (extension n u) Refused (extension n (u ++ more)) Refused
+    (extension-stays more n u) refl)
 
-value-stays : (more : List ℕ) (count n b : ℕ) (u : List ℕ) (value : Option ℕ) → ((d : ℕ) → Stays more (digits (count + 1) (16 * n + d) u) (digits (count + 1) (16 * n + d) (u ++ more)))
-    → Stays more (elim value [ Some d ↦ elim (nat_lt count 8) [ true ↦ digits (count + 1) (16 * n + d) u | false ↦ Refused ] | None ↦ elim (nat_lt 0 count) [ true ↦ after_digits n b u | false ↦ Refused ] ])
-    (elim value [ Some d ↦ elim (nat_lt count 8) [ true ↦ digits (count + 1) (16 * n + d) (u ++ more) | false ↦ Refused ] | None ↦ elim (nat_lt 0 count) [ true ↦ after_digits n b (u ++ more) | false ↦ Refused ] ])
-value-stays more count n b u (Some d) goes = test-stays more (nat_lt count 8) (digits (count + 1) (16 * n + d) u) Refused (digits (count + 1) (16 * n + d) (u ++ more)) Refused (goes d) refl
-value-stays more count n b u None goes = test-stays more (nat_lt 0 count) (after_digits n b u) Refused (after_digits n b (u ++ more)) Refused (after_digits-stays more n b u) refl
+value-stays : (more : List ℕ) (count n b : ℕ) (u : List ℕ) (value : Option ℕ)
+    → ((d : ℕ) → Stays more (digits (count + 1) (16 * n + d) u) (digits (count + 1) (16 * n + d) (u ++ more)))
+    → Stays more
+    (elim value [
+      | Some d ↦ elim (nat_lt count 8) [ true ↦ digits (count + 1) (16 * n + d) u | false ↦ Refused ]
+      | None ↦ elim (nat_lt 0 count) [ true ↦ after_digits n b u | false ↦ Refused ]
+    ])
+    (elim value [
+      | Some d ↦ elim (nat_lt count 8)
+          [ true ↦ digits (count + 1) (16 * n + d) (u ++ more) | false ↦ Refused ]
+      | None ↦ elim (nat_lt 0 count) [ true ↦ after_digits n b (u ++ more) | false ↦ Refused ]
+    ])
+value-stays more count n b u (Some d) goes =
+    test-stays more (nat_lt count 8) (digits (count + 1) (16 * n + d) u) Refused
+    (digits (count + 1) (16 * n + d) (u ++ more)) Refused (goes d) refl
+value-stays more count n b u None goes =
+    test-stays more (nat_lt 0 count) (after_digits n b u) Refused (after_digits n b (u ++ more)) Refused
+    (after_digits-stays more n b u) refl
 
-pub digits-stays : (more : List ℕ) (count n : ℕ) (u : List ℕ) → Stays more (digits count n u) (digits count n (u ++ more))
+pub digits-stays : (more : List ℕ) (count n : ℕ) (u : List ℕ)
+    → Stays more (digits count n u) (digits count n (u ++ more))
 unfolding digits
 digits-stays more count n [] = tt
 digits-stays more count n (b ∷ u) =
@@ -79,24 +102,32 @@ counted-stays : (more : List ℕ) (n : ℕ) (u : List ℕ) → Stays more (count
 unfolding counted
 counted-stays more zero u = refl
 counted-stays more (suc n) [] = tt
-counted-stays more (suc n) (b ∷ u) = front-stays more (b ∷ []) (counted n u) (counted n (u ++ more)) (counted-stays more n u)
+counted-stays more (suc n) (b ∷ u) = front-stays more (b ∷ []) (counted n u) (counted n (u ++ more))
+    (counted-stays more n u)
 
-pub trailer-stays : (more : List ℕ) (place : InLine) (u : List ℕ) → Stays more (trailer place u) (trailer place (u ++ more))
+pub trailer-stays : (more : List ℕ) (place : InLine) (u : List ℕ)
+    → Stays more (trailer place u) (trailer place (u ++ more))
 unfolding trailer
 trailer-stays more place [] = tt
 trailer-stays more Start (b ∷ u) =
     let none : List ℕ = [] in
-    test-stays more (b == 13) (feed none u) (elim (b == 10) [ true ↦ Refused | false ↦ trailer Inside u ]) (feed none (u ++ more)) (elim (b == 10) [ true ↦ Refused | false ↦ trailer Inside (u ++ more) ])
+    test-stays more (b == 13) (feed none u) (elim (b == 10) [ true ↦ Refused | false ↦ trailer Inside u ])
+    (feed none (u ++ more)) (elim (b == 10) [ true ↦ Refused | false ↦ trailer Inside (u ++ more) ])
     (feed-stays more none u)
-    (test-stays more (b == 10) Refused (trailer Inside u) Refused (trailer Inside (u ++ more)) refl (trailer-stays more Inside u))
+    (test-stays more (b == 10) Refused (trailer Inside u) Refused (trailer Inside (u ++ more)) refl
+    (trailer-stays more Inside u))
 trailer-stays more BehindCr (b ∷ u) =
-    test-stays more (b == 10) (trailer Start u) Refused (trailer Start (u ++ more)) Refused (trailer-stays more Start u) refl
+    test-stays more (b == 10) (trailer Start u) Refused (trailer Start (u ++ more)) Refused (trailer-stays more Start u)
+    refl
 trailer-stays more Inside (b ∷ u) =
-    test-stays more (b == 13) (trailer BehindCr u) (elim (b == 10) [ true ↦ Refused | false ↦ trailer Inside u ]) (trailer BehindCr (u ++ more)) (elim (b == 10) [ true ↦ Refused | false ↦ trailer Inside (u ++ more) ])
+    test-stays more (b == 13) (trailer BehindCr u) (elim (b == 10) [ true ↦ Refused | false ↦ trailer Inside u ])
+    (trailer BehindCr (u ++ more)) (elim (b == 10) [ true ↦ Refused | false ↦ trailer Inside (u ++ more) ])
     (trailer-stays more BehindCr u)
-    (test-stays more (b == 10) Refused (trailer Inside u) Refused (trailer Inside (u ++ more)) refl (trailer-stays more Inside u))
+    (test-stays more (b == 10) Refused (trailer Inside u) Refused (trailer Inside (u ++ more)) refl
+    (trailer-stays more Inside u))
 
-after_size-stays : (more : List ℕ) (n m : ℕ) (rest : List ℕ) → length rest < m → ((u : List ℕ) → length u < m → Stays more (chunked u) (chunked (u ++ more)))
+after_size-stays : (more : List ℕ) (n m : ℕ) (rest : List ℕ) → length rest < m
+    → ((u : List ℕ) → length u < m → Stays more (chunked u) (chunked (u ++ more)))
     → Stays more (after_size chunked n rest) (after_size chunked n (rest ++ more))
 after_size-stays more zero m rest few goes = trailer-stays more Start rest
 after_size-stays more (suc n) m rest few goes =
@@ -104,7 +135,8 @@ after_size-stays more (suc n) m rest few goes =
     (λ piece. crlf piece.1 >>= (λ end. with_front piece.0 (chunked end.1)))
     (counted-below (suc n) rest) (counted-stays more (suc n) rest)
     (λ piece left within.
-    bind-stays more (suc (length left)) (crlf left) (crlf (left ++ more)) (λ end. with_front piece (chunked end.1)) (crlf-below left) (crlf-stays more left)
+    bind-stays more (suc (length left)) (crlf left) (crlf (left ++ more)) (λ end. with_front piece (chunked end.1))
+    (crlf-below left) (crlf-stays more left)
     (λ end after fewer. front-stays more piece (chunked after) (chunked (after ++ more)) (goes after (omega arith))))
 
 chunked-stays_below : (more : List ℕ) (n : ℕ) (u : List ℕ) → length u < n → Stays more (chunked u) (chunked (u ++ more))
@@ -112,9 +144,12 @@ chunked-stays_below more zero u few = absurd (omega arith)
 chunked-stays_below more (suc n) u few =
     let go : List ℕ → Reading (List ℕ) = λ v. size_line v >>= (λ size. after_size chunked size.0 size.1) in
     let stays : Stays more (go u) (go (u ++ more)) =
-    bind-stays more (length u) (size_line u) (size_line (u ++ more)) (λ size. after_size chunked size.0 size.1) (digits-below 0 0 u) (digits-stays more 0 0 u)
-    (λ size rest within. after_size-stays more size (length u) rest within (λ v short. chunked-stays_below more n v (omega arith))) in
-    let first : Stays more (chunked u) (go (u ++ more)) = subst (λ (r : Reading (List ℕ)). Stays more r (go (u ++ more))) (sym (chunked_is u)) stays in
+    bind-stays more (length u) (size_line u) (size_line (u ++ more)) (λ size. after_size chunked size.0 size.1)
+    (digits-below 0 0 u) (digits-stays more 0 0 u)
+    (λ size rest within. after_size-stays more size (length u) rest within
+    (λ v short. chunked-stays_below more n v (omega arith))) in
+    let first : Stays more (chunked u) (go (u ++ more)) =
+    subst (λ (r : Reading (List ℕ)). Stays more r (go (u ++ more))) (sym (chunked_is u)) stays in
     subst (λ (r : Reading (List ℕ)). Stays more (chunked u) r) (sym (chunked_is (u ++ more))) first
 
 pub chunked-stays : (more u : List ℕ) → Stays more (chunked u) (chunked (u ++ more))
@@ -125,8 +160,10 @@ pub block-stays : (more held : List ℕ) (behind : Bool) (place : InLine) (u : L
 unfolding block_from
 block-stays more held behind place [] = tt
 block-stays more held behind place (b ∷ u) =
-    test-stays more (behind && ends_empty place b) (Got (held ++ b ∷ []) u) (block_from (held ++ b ∷ []) (behind || ends_full place b) (place_after place b) u)
-    (Got (held ++ b ∷ []) (u ++ more)) (block_from (held ++ b ∷ []) (behind || ends_full place b) (place_after place b) (u ++ more))
+    test-stays more (behind && ends_empty place b) (Got (held ++ b ∷ []) u)
+    (block_from (held ++ b ∷ []) (behind || ends_full place b) (place_after place b) u)
+    (Got (held ++ b ∷ []) (u ++ more)) (block_from (held ++ b ∷ []) (behind || ends_full place b) (place_after place b)
+    (u ++ more))
     refl (block-stays more (held ++ b ∷ []) (behind || ends_full place b) (place_after place b) u)
 
 reply-stays : (more : List ℕ) (status : ℕ) (r r' : Reading (List ℕ)) → Stays more r r' → IsSettled (reply_with status r)
@@ -136,10 +173,13 @@ reply-stays more status Refused r' stays settled = ap (λ x. reply_with status x
 reply-stays more status Lacking r' stays settled = absurd settled
 
 body-stays : (more : List ℕ) (status : ℕ) (framed : Framing) (ended : Bool) (u : List ℕ)
-    → IsSettled (body_of status framed false u) → body_of status framed false u ≡ body_of status framed ended (u ++ more)
+    → IsSettled (body_of status framed false u)
+    → body_of status framed false u ≡ body_of status framed ended (u ++ more)
 body-stays more status framing.Nothing ended u settled = refl
-body-stays more status (framing.Counted n) ended u settled = reply-stays more status (counted n u) (counted n (u ++ more)) (counted-stays more n u) settled
-body-stays more status framing.Chunked ended u settled = reply-stays more status (chunked u) (chunked (u ++ more)) (chunked-stays more u) settled
+body-stays more status (framing.Counted n) ended u settled =
+    reply-stays more status (counted n u) (counted n (u ++ more)) (counted-stays more n u) settled
+body-stays more status framing.Chunked ended u settled =
+    reply-stays more status (chunked u) (chunked (u ++ more)) (chunked-stays more u) settled
 body-stays more status framing.ToEnd ended u settled = absurd settled
 
 from-stays : (more : List ℕ) (ended : Bool) (r r' : Reading (List ℕ)) (o : Outcome) → Stays more r r' → IsSettled o
@@ -149,12 +189,16 @@ from-stays more ended r r' o stays settled (no_head means) =
     subst (λ (x : Reading (List ℕ)). ReadsFrom ended x NotReply) (sym stays) (no_head means)
 from-stays more ended r r' o stays settled (interim {block = block} {rest = rest} means reads) =
     subst (λ (x : Reading (List ℕ)). ReadsFrom ended x o) (sym stays)
-    (interim means (from-stays more ended (block_at rest) (block_at (rest ++ more)) o (block-stays more [] false Start rest) settled reads))
-from-stays more ended r r' o stays settled (final {block = block} {rest = rest} {status = status} {framed = framed} means is) =
+    (interim means (from-stays more ended (block_at rest) (block_at (rest ++ more)) o
+    (block-stays more [] false Start rest) settled reads))
+from-stays more ended r r' o stays settled
+    (final {block = block} {rest = rest} {status = status} {framed = framed} means is) =
     subst (λ (x : Reading (List ℕ)). ReadsFrom ended x o) (sym stays)
     (final means (is ∙ body-stays more status framed ended rest (subst (λ (x : Outcome). IsSettled x) is settled)))
 
 -- A settled outcome stays whatever comes behind it, and whether the link ends or not.
-pub settled-stays : (bytes more : List ℕ) (ended : Bool) (o : Outcome) → Reads bytes false o → IsSettled o → Reads (bytes ++ more) ended o
+pub settled-stays : (bytes more : List ℕ) (ended : Bool) (o : Outcome) → Reads bytes false o → IsSettled o
+    → Reads (bytes ++ more) ended o
 settled-stays bytes more ended o reads settled =
-    from-stays more ended (block_at bytes) (block_at (bytes ++ more)) o (block-stays more [] false Start bytes) settled reads
+    from-stays more ended (block_at bytes) (block_at (bytes ++ more)) o (block-stays more [] false Start bytes) settled
+    reads

@@ -1,5 +1,6 @@
 -- How a reader goes on byte by byte.
-use Rattle.std.proofs.Common.{◌≡◌, ℕ, Bool, true, false, ◌&&◌, ◌||◌, List, [], ◌∷◌, ◌++◌, Some, None, refl, ap, sym, subst, ◌∙◌, append_assoc, append-nil}
+use Rattle.std.proofs.Common.{◌≡◌, ℕ, Bool, true, false, ◌&&◌, ◌||◌, List, [], ◌∷◌, ◌++◌, Some, None, refl, ap, sym}
+use Rattle.std.proofs.Common.{subst, ◌∙◌, append_assoc, append-nil}
 use Rattle.std.specs.Prelude.{if◌then◌else◌}
 use Rattle.mx_wire.specs.Reading.{Reading, with_front}
 use Rattle.mx_wire.specs.Reading.Reading.{Got}
@@ -29,18 +30,22 @@ choose-stops false stop go y next = cc
 
 -- The byte doesn't end the block.
 pub block_goes : (held : List ℕ) (behind : Bool) (place : InLine) (b : ℕ) (to : Bool × InLine) (u : List ℕ)
-    → Some to ≡ next_in_block behind place b → block_from held behind place (b ∷ u) ≡ block_from (held ++ b ∷ []) to.0 to.1 u
+    → Some to ≡ next_in_block behind place b
+    → block_from held behind place (b ∷ u) ≡ block_from (held ++ b ∷ []) to.0 to.1 u
 unfolding block_from
 block_goes held behind place b to u next =
-    choose-goes (behind && ends_empty place b) (Got (held ++ b ∷ []) u) (block_from (held ++ b ∷ []) (behind || ends_full place b) (place_after place b) u)
+    choose-goes (behind && ends_empty place b) (Got (held ++ b ∷ []) u)
+    (block_from (held ++ b ∷ []) (behind || ends_full place b) (place_after place b) u)
     (λ x. block_from (held ++ b ∷ []) x.0 x.1 u) to (behind || ends_full place b, place_after place b) next refl
 
 -- The byte ends the block.
-pub block_stops : (held : List ℕ) (behind : Bool) (place : InLine) (b : ℕ) (u : List ℕ) → None ≡ next_in_block behind place b
+pub block_stops : (held : List ℕ) (behind : Bool) (place : InLine) (b : ℕ) (u : List ℕ)
+    → None ≡ next_in_block behind place b
     → block_from held behind place (b ∷ u) ≡ Got (held ++ b ∷ []) u
 unfolding block_from
 block_stops held behind place b u next =
-    choose-stops (behind && ends_empty place b) (Got (held ++ b ∷ []) u) (block_from (held ++ b ∷ []) (behind || ends_full place b) (place_after place b) u)
+    choose-stops (behind && ends_empty place b) (Got (held ++ b ∷ []) u)
+    (block_from (held ++ b ∷ []) (behind || ends_full place b) (place_after place b) u)
     (behind || ends_full place b, place_after place b) next
 
 -- Nothing was taken.
@@ -73,13 +78,15 @@ settled-body coding.Complete status held more u over = refl
 settled-body coding.Broken status held more u over = refl
 
 -- What comes behind a settled reply isn't looked at.
-pub Takes-settled : (t : Stage) (status : ℕ) (held more : List ℕ) → is_settled t ≡ true → Takes t status held more t status held
+pub Takes-settled : (t : Stage) (status : ℕ) (held more : List ℕ) → is_settled t ≡ true
+    → Takes t status held more t status held
 Takes-settled (stage.Block behind place) status held more settled = cc
 Takes-settled stage.ToEnd status held more settled = cc
 Takes-settled (stage.Body at) status held more settled =
     record { reads = λ ended u o resumes. resumes ∙ settled-body at status held more u settled }
 
-body-so : (at : Coding) (status : ℕ) (held : List ℕ) → body_outcome at status held ≡ reply_with status (with_front held (rest_of at []))
+body-so : (at : Coding) (status : ℕ) (held : List ℕ)
+    → body_outcome at status held ≡ reply_with status (with_front held (rest_of at []))
 unfolding counted digits extension trailer
 body-so (coding.Counted n) status held = refl
 body-so (coding.Digits size) status held = refl
@@ -94,7 +101,8 @@ body-so coding.Complete status held = ap (λ (l : List ℕ). Whole status l) (sy
 body-so coding.Broken status held = refl
 
 -- Where no byte comes any more, this is the outcome.
-pub ends_so : (t : Stage) (status : ℕ) (held : List ℕ) (ended : Bool) → Resumes t status held ended [] (outcome_of t status held ended)
+pub ends_so : (t : Stage) (status : ℕ) (held : List ℕ) (ended : Bool)
+    → Resumes t status held ended [] (outcome_of t status held ended)
 unfolding block_from
 ends_so (stage.Block behind place) status held ended = no_block
 ends_so stage.ToEnd status held ended = ap (λ (l : List ℕ). up_to_end status ended l) (sym (append-nil held))
@@ -105,14 +113,22 @@ pub takes_in_block : (held : List ℕ) (behind : Bool) (place : InLine) (b statu
     → Some to ≡ next_in_block behind place b
     → Takes (stage.Block behind place) status held (b ∷ []) (stage.Block to.0 to.1) status (held ++ b ∷ [])
 takes_in_block held behind place b status to next =
-    record { reads = λ ended u o resumes. subst (λ (r : Reading (List ℕ)). ReadsFrom ended r o) (sym (block_goes held behind place b to u next)) resumes }
+    record {
+      reads = λ ended u o resumes. subst (λ (r : Reading (List ℕ)). ReadsFrom ended r o)
+          (sym (block_goes held behind place b to u next)) resumes;
+    }
 
 -- The last byte of a block was taken, and what the block means.
-pub takes_block : (held : List ℕ) (behind : Bool) (place : InLine) (b status : ℕ) (t : Stage) (status' : ℕ) (held' : List ℕ)
-    → None ≡ next_in_block behind place b → ((ended : Bool) (u : List ℕ) (o : Outcome) → Resumes t status' held' ended u o → ReadsFrom ended (Got (held ++ b ∷ []) u) o)
+pub takes_block : (held : List ℕ) (behind : Bool) (place : InLine) (b status : ℕ) (t : Stage) (status' : ℕ)
+    (held' : List ℕ)
+    → None ≡ next_in_block behind place b → ((ended : Bool) (u : List ℕ) (o : Outcome)
+    → Resumes t status' held' ended u o → ReadsFrom ended (Got (held ++ b ∷ []) u) o)
     → Takes (stage.Block behind place) status held (b ∷ []) t status' held'
 takes_block held behind place b status t status' held' next means =
-    record { reads = λ ended u o resumes. subst (λ (r : Reading (List ℕ)). ReadsFrom ended r o) (sym (block_stops held behind place b u next)) (means ended u o resumes) }
+    record {
+      reads = λ ended u o resumes. subst (λ (r : Reading (List ℕ)). ReadsFrom ended r o)
+          (sym (block_stops held behind place b u next)) (means ended u o resumes);
+    }
 
 -- What a reader finds, the bytes that it took hold.
 pub has_read : (bytes : List ℕ) (t : Stage) (status : ℕ) (held : List ℕ) (ended : Bool) → HasTaken bytes t status held

@@ -28,7 +28,8 @@ refuse-final status framed is = cc
 interim-final : (status : ℕ) (framed : Framing) → meaning.Interim ≡ meaning.Final status framed → ⊥
 interim-final status framed is = cc
 
-same-body : (s t : ℕ) (f g : Framing) (ended : Bool) (u : List ℕ) → meaning.Final s f ≡ meaning.Final t g → body_of s f ended u ≡ body_of t g ended u
+same-body : (s t : ℕ) (f g : Framing) (ended : Bool) (u : List ℕ) → meaning.Final s f ≡ meaning.Final t g
+    → body_of s f ended u ≡ body_of t g ended u
 same-body s t f g ended u is =
     let status : s ≡ t = cc in
     let framed : f ≡ g = cc in
@@ -51,7 +52,8 @@ from-unique ended r o p (final {block = block} {status = s} {framed = f} m is) (
     absurd (refuse-final s f (meaning-unique block meaning.Refuse (meaning.Final s f) n m))
 from-unique ended r o p (final {block = block} {status = s} {framed = f} m is) (interim n reads) =
     absurd (interim-final s f (meaning-unique block meaning.Interim (meaning.Final s f) n m))
-from-unique ended r o p (final {block = block} {rest = rest} {status = s} {framed = f} m is) (final {status = t} {framed = g} n other) =
+from-unique ended r o p (final {block = block} {rest = rest} {status = s} {framed = f} m is)
+    (final {status = t} {framed = g} n other) =
     is ∙ same-body s t f g ended rest (meaning-unique block (meaning.Final s f) (meaning.Final t g) m n) ∙ sym other
 
 -- Two outcomes of the same bytes are the same.

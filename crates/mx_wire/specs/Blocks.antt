@@ -1,6 +1,7 @@
 -- The block of lines in which a head comes: RFC 9112, 'Message Parsing', whose lines end with a line
 -- feed here, with or without a carriage return before it.
-use Rattle.std.specs.Prelude.{ℕ, Bool, true, false, ◌==◌, ◌&&◌, ◌||◌, List, [], ◌∷◌, ◌++◌, Option, Some, None, if◌then◌else◌}
+use Rattle.std.specs.Prelude.{ℕ, Bool, true, false, ◌==◌, ◌&&◌, ◌||◌, List, [], ◌∷◌, ◌++◌, Option, Some, None}
+use Rattle.std.specs.Prelude.{if◌then◌else◌}
 use Rattle.mx_wire.specs.Reading.{Reading}
 use Rattle.mx_wire.specs.Reading.Reading.{Got, Lacking}
 use Rattle.mx_wire.specs.declared.line.InLine.{InLine}

@@ -1,5 +1,6 @@
 -- The body of a reply: RFC 9112, 'Chunked Transfer Coding' and 'Message Body Length'.
-use Rattle.std.specs.Prelude.{ℕ, zero, suc, ◌+◌, ◌-◌, ◌*◌, Bool, true, false, ◌==◌, ◌||◌, ◌&&◌, nat_lt, nat_le, List, [], ◌∷◌, length, Option, Some, None, if◌then◌else◌}
+use Rattle.std.specs.Prelude.{ℕ, zero, suc, ◌+◌, ◌-◌, ◌*◌, Bool, true, false, ◌==◌, ◌||◌, ◌&&◌, nat_lt, nat_le, List}
+use Rattle.std.specs.Prelude.{[], ◌∷◌, length, Option, Some, None, if◌then◌else◌}
 use Rattle.mx_wire.specs.Reading.{Reading, ◌>>=◌, with_front}
 use Rattle.mx_wire.specs.Reading.Reading.{Got, Refused, Lacking}
 use Rattle.mx_wire.specs.declared.line.InLine.{InLine}

@@ -18,7 +18,8 @@ OneOutcome = (bytes : List ℕ) (ended : Bool) (o p : Outcome) → Reads bytes e
 -- A settled outcome stays, whatever comes behind the bytes and whether the link ends then or not.
 abbrev pub SettledStays : Type 0
 SettledStays =
-    (bytes more : List ℕ) (ended : Bool) (o : Outcome) → Reads bytes false o → IsSettled o → Reads (bytes ++ more) ended o
+    (bytes more : List ℕ) (ended : Bool) (o : Outcome) → Reads bytes false o → IsSettled o
+    → Reads (bytes ++ more) ended o
 
 -- It is refused exactly where no further bytes make one: what is refused stays refused, and where
 -- bytes are lacking some make it whole.

@@ -18,8 +18,10 @@ Resumes stage.ToEnd status held ended u o = o ≡ up_to_end status ended (held +
 Resumes (stage.Body at) status held ended u o = o ≡ reply_with status (with_front held (rest_of at u))
 
 -- The piece was taken: what the new state reads of any bytes, the old one reads of the piece and these.
-pub record Takes (t : Stage) (status : ℕ) (held piece : List ℕ) (t' : Stage) (status' : ℕ) (held' : List ℕ) : Type 0 where
-  pub reads : (ended : Bool) (u : List ℕ) (o : Outcome) → Resumes t' status' held' ended u o → Resumes t status held ended (piece ++ u) o
+pub record Takes (t : Stage) (status : ℕ) (held piece : List ℕ) (t' : Stage) (status' : ℕ) (held' : List ℕ) : Type 0
+  where
+    pub reads : (ended : Bool) (u : List ℕ) (o : Outcome) → Resumes t' status' held' ended u o
+        → Resumes t status held ended (piece ++ u) o
 
 -- The outcome of the bytes of a body that were taken so far.
 abbrev pub body_outcome : Coding → ℕ → List ℕ → Outcome

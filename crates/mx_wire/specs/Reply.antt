@@ -39,8 +39,11 @@ body_of status framing.ToEnd ended bytes = up_to_end status ended bytes
 pub data ReadsFrom (ended : Bool) : Reading (List ℕ) → Outcome → Type 0 where
   no_block : ReadsFrom ended Lacking Unfinished
   no_head : {block rest : List ℕ} → HasMeaning block meaning.Refuse → ReadsFrom ended (Got block rest) NotReply
-  interim : {block rest : List ℕ} {o : Outcome} → HasMeaning block meaning.Interim → ReadsFrom ended (block_at rest) o → ReadsFrom ended (Got block rest) o
-  final : {block rest : List ℕ} {o : Outcome} {status : ℕ} {framed : Framing} → HasMeaning block (meaning.Final status framed) → o ≡ body_of status framed ended rest → ReadsFrom ended (Got block rest) o
+  interim : {block rest : List ℕ} {o : Outcome} → HasMeaning block meaning.Interim → ReadsFrom ended (block_at rest) o
+      → ReadsFrom ended (Got block rest) o
+  final : {block rest : List ℕ} {o : Outcome} {status : ℕ} {framed : Framing}
+      → HasMeaning block (meaning.Final status framed) → o ≡ body_of status framed ended rest
+      → ReadsFrom ended (Got block rest) o
 
 -- What these bytes hold, after which the link ended or not.
 abbrev pub Reads : List ℕ → Bool → Outcome → Type 0

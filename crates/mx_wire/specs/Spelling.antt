@@ -24,7 +24,8 @@ pub record IsFullLine (line : List ℕ) : Type 0 where
 -- line came before or not.
 pub data IsBlockRest : Bool → List ℕ → Type 0 where
   end_line : {block : List ℕ} → IsEmptyLine block → IsBlockRest true block
-  blank_line : {block : List ℕ} (line rest : List ℕ) → IsEmptyLine line → IsBlockRest false rest → block ≡ line ++ rest → IsBlockRest false block
+  blank_line : {block : List ℕ} (line rest : List ℕ) → IsEmptyLine line → IsBlockRest false rest → block ≡ line ++ rest
+      → IsBlockRest false block
   full_line : {behind : Bool} {block : List ℕ} (line rest : List ℕ) → IsFullLine line → IsBlockRest true rest
       → block ≡ line ++ rest → IsBlockRest behind block
 

@@ -1,5 +1,6 @@
 -- What an exchange with a gateway is, and what one poll of it does: ours.
-use Rattle.std.specs.Prelude.{◌≡◌, ℕ, ◌+◌, ◌<◌, ◌≤◌, Bool, true, false, ◌==◌, List, [], ◌++◌, length, take, drop, Option, if◌then◌else◌}
+use Rattle.std.specs.Prelude.{◌≡◌, ℕ, ◌+◌, ◌<◌, ◌≤◌, Bool, true, false, ◌==◌, List, [], ◌++◌, length, take, drop}
+use Rattle.std.specs.Prelude.{Option, if◌then◌else◌}
 use Rattle.mx_outside.specs.Told.{WhereTold}
 use Rattle.mx_outside.specs.Link.{Entry, Changes, with_sent, with_received, with_failed, with_ended}
 use Rattle.mx_wire.specs.Reply.{Outcome, Reads}
@@ -88,15 +89,6 @@ received_by (gets bytes) = bytes
 received_by waits = []
 received_by ends = []
 received_by fails = []
-
--- The link ended.
-abbrev pub is_end : Call → Bool
-is_end idle = false
-is_end (sends n) = false
-is_end (gets bytes) = false
-is_end waits = false
-is_end ends = true
-is_end fails = false
 
 -- One poll did this with the link.
 pub record Does (call : Call) (before now : Option (List Entry)) (old new : Standing) : Type 0 where

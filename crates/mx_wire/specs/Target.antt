@@ -1,6 +1,7 @@
 -- Which texts are the URL of a push gateway, by the URL Standard and the Push Gateway API v1; that
 -- the scheme may be `http` is ours.
-use Rattle.std.specs.Prelude.{ℕ, Bool, not, ◌&&◌, ◌||◌, List, [], ◌++◌, codes, decimal, Option, Some, None, is_some, Result, Ok, Err, if◌then◌else◌}
+use Rattle.std.specs.Prelude.{ℕ, Bool, not, ◌&&◌, ◌||◌, List, [], ◌++◌, codes, decimal, Option, Some, None, is_some}
+use Rattle.std.specs.Prelude.{Result, Ok, Err, if◌then◌else◌}
 use Rattle.std.specs.Str.{bytes_eq}
 use Rattle.url.specs.Host.{host_text}
 use Rattle.url.specs.Input.{is_empty}

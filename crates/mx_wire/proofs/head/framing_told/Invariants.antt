@@ -7,7 +7,9 @@ use Rattle.mx_wire.proofs.head.framing_told.Given as goal
 
 abbrev pub invariant-loop-header : goal.invariant-loop-header
 invariant-loop-header l =
-    (seen_of l.block l.coding ≡ once (values_of (codes "transfer-encoding") (map (header_bytes l.block) (take l.header-index l.headers))))
+    (seen_of l.block l.coding
+    ≡ once (values_of (codes "transfer-encoding") (map (header_bytes l.block) (take l.header-index l.headers))))
     × IsSeenWithin (length l.block) l.coding
-    × (seen_of l.block l.count ≡ once (values_of (codes "content-length") (map (header_bytes l.block) (take l.header-index l.headers))))
+    × (seen_of l.block l.count
+    ≡ once (values_of (codes "content-length") (map (header_bytes l.block) (take l.header-index l.headers))))
     × IsSeenWithin (length l.block) l.count

@@ -3,4 +3,5 @@ use Rattle.std.specs.Str.Parse.{digits_value, digits_value_after}
 use Rattle.mx_wire.proofs.number.number.Given as goal
 
 abbrev pub invariant-loop-byte : goal.invariant-loop-byte
-invariant-loop-byte l = (digits_value_after 10 l.value (drop l.byte-index l.text) ≡ digits_value 10 l.text) × (l.value < 10 ^ l.byte-index)
+invariant-loop-byte l = (digits_value_after 10 l.value (drop l.byte-index l.text) ≡ digits_value 10 l.text)
+    × (l.value < 10 ^ l.byte-index)

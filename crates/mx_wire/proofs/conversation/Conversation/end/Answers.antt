@@ -16,6 +16,11 @@ returns-clause-heard c =
       request = refl;
       sent = refl;
       received = sym (append-nil inside.received.items);
-      answers = (o, has_read inside.received.items reader.stage reader.status held true c.self.invariant.5, c.after_end.ensures.answer o c.found.ensures, found_body reader.stage reader.status held true);
+      answers = (
+        o,
+        has_read inside.received.items reader.stage reader.status held true c.self.invariant.5,
+        c.after_end.ensures.answer o c.found.ensures,
+        found_body reader.stage reader.status held true,
+      );
       done = sym c.after_end.ensures.done;
     })

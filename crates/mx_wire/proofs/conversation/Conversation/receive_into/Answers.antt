@@ -10,4 +10,5 @@ returns-in-Bytes-clause-polls g c =
     let room = rw (← c.self.view_is) at c.requires.room in
     let heard = rw (← c.self.view_is) at c.take.ensures.heard in
     let given = (c.in-Bytes.ensures).received in
-    rw (← c.self.view_is) (polls_gets _ _ _ _ _ c.in-Bytes.count c.recv.new.into _ sent (omega (arith, given.1)) (given.0, omega (arith, given.1)) refl (c.in-Bytes.ensures).log heard)
+    rw (← c.self.view_is) (polls_gets _ _ _ _ _ c.in-Bytes.count c.recv.new.into _ sent (omega (arith, given.1))
+    (given.0, omega (arith, given.1)) refl (c.in-Bytes.ensures).log heard)

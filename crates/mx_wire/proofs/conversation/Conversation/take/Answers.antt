@@ -15,7 +15,8 @@ returns-clause-heard c =
     let o = outcome_of reader.stage reader.status held false in
     let all : received ≡ inside.received.items ++ c.args.piece.now = (c.in-Ok.ensures).items in
     let taken = Takes-then _ _ _ _ _ _ _ _ _ _ _ c.self.invariant.5 c.feed.ensures.takes in
-    let reads = subst (λ (l : List ℕ). Reads l false o) (sym all) (has_read _ reader.stage reader.status held false taken) in
+    let reads = subst (λ (l : List ℕ). Reads l false o) (sym all)
+    (has_read _ reader.stage reader.status held false taken) in
     let count : c.len.result ≡ length received = omega (arith, c.extend_from_slice.new.self.ok.0) in
     let answer = c.after_bytes-turn.ensures.answer o c.found.ensures ∙ ap (λ n. after_bytes n o) count in
     rw (← c.self.view_is) (record {

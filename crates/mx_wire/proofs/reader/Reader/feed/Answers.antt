@@ -11,5 +11,7 @@ returns-then-is_settled-clause-takes c =
     let piece = c.args.piece.now in
     let old = c.args.self.now in
     let now = c.loop-byte.self in
-    subst (λ (bytes : List ℕ). Takes old.stage old.status old.held.items bytes now.stage now.status now.held.items) (take-append-drop i piece)
-    (Takes-then _ _ _ _ _ _ _ _ _ _ _ c.loop-byte.invariant.0 (Takes-settled now.stage now.status now.held.items (drop i piece) (sym (c.if-is_settled.ensures))))
+    subst (λ (bytes : List ℕ). Takes old.stage old.status old.held.items bytes now.stage now.status now.held.items)
+    (take-append-drop i piece)
+    (Takes-then _ _ _ _ _ _ _ _ _ _ _ c.loop-byte.invariant.0
+    (Takes-settled now.stage now.status now.held.items (drop i piece) (sym (c.if-is_settled.ensures))))
