@@ -16,7 +16,7 @@ use Rattle.mx_records.specs.Counting.{is_in}
 use Rattle.mx_records.specs.History.{Happening, History, events}
 use Rattle.mx_records.specs.Normal.{IsNormal}
 use Rattle.mx_records.specs.Places.{is_event_with, position_of}
-use Rattle.mx_records.specs.Refusing.{is_full, is_read_in, is_too_long, refusal_by, refusal_of, refusal_of_any, refusal_of_content, refusal_of_read, IsAcceptable, IsBuilt}
+use Rattle.mx_records.specs.Refusing.{is_full, is_read_in, is_too_long, refusal_by, refusal_of, refusal_of_any, refusal_of_content, refusal_of_read, IsAcceptableInput, IsBuilt}
 use Rattle.mx_records.specs.Rules.{rules_of}
 use Rattle.mx_engine.specs.declared.error.PrepareError.{PrepareError}
 use Rattle.mx_engine.specs.declared.error.PrepareError.TheVariants.{Refused, OutOfMemory}
@@ -111,7 +111,7 @@ other-by None long false told any other = absurd cc
 
 -- an input that is refused for nothing is acceptable
 pub accepted : (server : List ℕ) (h : History) (input : Input) → IsNormal input → IsBuilt input
-    → refusal_of_any server h input ≡ None → refusal_of_length input ≡ None → IsAcceptable server h input
+    → refusal_of_any server h input ≡ None → refusal_of_length input ≡ None → IsAcceptableInput server h input
 unfolding refusal_of_any refusal_of
 accepted server h input normal built any length = record {
   normal = normal;

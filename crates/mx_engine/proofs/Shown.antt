@@ -27,7 +27,7 @@ use Rattle.mx_records.specs.declared.input.Input.{Input}
 use Rattle.mx_records.specs.declared.input.Input.TheVariants.{Event, Edit as EditInput, Receipt, Pusher}
 use Rattle.mx_records.specs.declared.refusal.Refusal.{Refusal}
 use Rattle.mx_records.specs.declared.refusal.Refusal.TheVariants.{Full, KnownEvent, NotInThread, NotLocal, UnknownEvent}
-use Rattle.mx_records.specs.History.{History, arrivals_after, events, inputs_of, with_input}
+use Rattle.mx_records.specs.History.{History, additions_after, events, inputs_of, with_input}
 use Rattle.mx_records.specs.Judging.{notices_in}
 use Rattle.mx_records.specs.Places.{is_event_with, places_of, position_of, thread, with_place}
 use Rattle.mx_records.specs.Refusing.{NamesAPosition, most_inputs, refusal_by, refusal_of_any, refusal_of_content, refusal_of_read}
@@ -52,7 +52,7 @@ use Rattle.mx_engine.proofs.RowsShown.{list-unread, rows-event, rows-read, unrea
 pub snapshot-new : (server : List ℕ)
     → snapshot_of server []
     ≡ record { inputs = 0; places = empty; rooms = rooms_of []; rules = empty; unread = empty }
-unfolding snapshot_of places_of events arrivals_after edited_rules unread_rows table
+unfolding snapshot_of places_of events additions_after edited_rules unread_rows table
 snapshot-new server = refl
 
 -- ---- what is refused

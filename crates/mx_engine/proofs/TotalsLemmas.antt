@@ -1,7 +1,7 @@
 -- The counts of a room's threads add up to those of the room, and no history has more than inputs.
 use Rattle.std.proofs.Common.{◌≡◌, ℕ, ◌+◌, ◌*◌, ◌≤◌, ◌⊎◌, inl, inr, min, not, Bool, List, [], ◌∷◌, length, map, filter, suc, take, Option, None, Some, zero-le, refl, ap, sym, ◌∙◌, arith}
 use Rattle.std.specs.Prelude.{slice_get}
-use Rattle.std.specs.List.{cons_option, count_by, filter_map, sum_by}
+use Rattle.std.specs.List.{count_by, sum_by}
 use Rattle.std.proofs.lemmas.List.{length-map, take_all}
 use Rattle.std.proofs.lemmas.List.Sums.{count_by-le-length, length-filter, sum_by_more}
 use Rattle.std.proofs.lemmas.Option.{get_or_from_slice_get, slice_get_cases, slice_get_within}
@@ -10,10 +10,10 @@ use Rattle.mx_rows.specs.declared.row.Row.{Row}
 use Rattle.mx_rows.specs.declared.thread_key.ThreadKey.{ThreadKey}
 use Rattle.mx_rows.specs.Rows.{counts_in}
 use Rattle.mx_rows.specs.Threads.{same_thread}
-use Rattle.mx_records.specs.declared.input.Input.{Input}
 use Rattle.mx_records.specs.Counting.{counts_of, each_once, is_unread, room_counts_of, row_of, rows_of, thread_in, threads_of, unread}
-use Rattle.mx_records.specs.History.{Arrival, Happening, History, arrivals_after, events, happening_of, inputs_of, with_input}
+use Rattle.mx_records.specs.History.{Happening, History, events, inputs_of}
 use Rattle.mx_records.specs.Refusing.{most_inputs}
+use Rattle.mx_records.proofs.ShownLemmas.{events-le}
 use Rattle.mx_records.proofs.ThreadLemmas.{room_counts_of-threads}
 use Rattle.mx_engine.specs.Totals.{totals}
 
@@ -25,31 +25,10 @@ length-filter-le p xs =
     let long = length-filter p xs in
     omega (arith, counted, long)
 
-length-filter_map-le : {A B : Type 0} (f : A → Option B) (xs : List A) → length (filter_map f xs) ≤ length xs
-length-filter_map-le f [] = zero-le
-length-filter_map-le {B = B} f (x ∷ xs) = by (f x) (length-filter_map-le f xs)
-  where
-    by : (o : Option B) → length (filter_map f xs) ≤ length xs
-        → length (cons_option o (filter_map f xs)) ≤ suc (length xs)
-    by None few = omega (arith, few)
-    by (Some y) few = omega (arith, few)
-
-arrivals-long : (before : History) (inputs : List Input) → length (arrivals_after before inputs) ≡ length inputs
-unfolding arrivals_after
-arrivals-long before [] = refl
-arrivals-long before (input ∷ inputs) = ap suc (arrivals-long (with_input before input) inputs)
-
-events-few : (h : History) → length (events h) ≤ inputs_of h
-unfolding events
-events-few h =
-    let long = arrivals-long [] h in
-    let some = length-filter_map-le happening_of (arrivals_after [] h) in
-    omega (arith, long, some)
-
 unread-few : (server : List ℕ) (h : History) (user room : List ℕ) → length (unread server h user room) ≤ inputs_of h
 unread-few server h user room =
     let some = length-filter-le (is_unread server h user room) (events h) in
-    let few = events-few h in
+    let few = events-le h in
     omega (arith, some, few)
 
 once-few : (threads : List ThreadKey) → length (each_once threads) ≤ length threads

@@ -4,7 +4,7 @@ use Rattle.mx_records.specs.declared.refusal.Refusal.{Refusal}
 use Rattle.mx_records.specs.declared.refusal.Refusal.TheVariants.{EntryTooLong}
 use Rattle.mx_records.specs.declared.input.Input.{Input}
 use Rattle.mx_records.specs.History.{History}
-use Rattle.mx_records.specs.Refusing.{is_too_long, refusal_of, refusal_of_any, IsAcceptable, NamesAPosition}
+use Rattle.mx_records.specs.Refusing.{is_too_long, refusal_of, refusal_of_any, IsAcceptableInput, NamesAPosition}
 use Rattle.mx_engine.specs.declared.error.PrepareError.{PrepareError}
 use Rattle.mx_engine.specs.declared.error.PrepareError.TheVariants.{Refused, OutOfMemory}
 use Rattle.mx_engine.specs.Planning.{Planned}
@@ -12,7 +12,7 @@ use Rattle.mx_engine.specs.Planning.{Planned}
 -- The outcome of preparing an input: a plan to accept it, where nothing refuses it, or its refusal,
 -- or no memory.
 abbrev pub IsPrepared : List ℕ → History → Input → Result Planned PrepareError → Type 0
-IsPrepared server h input (Ok plan) = IsAcceptable server h input
+IsPrepared server h input (Ok plan) = IsAcceptableInput server h input
 IsPrepared server h input (Err (Refused refusal)) = refusal_of server h input ≡ Some refusal
 IsPrepared server h input (Err OutOfMemory) = Unit {0}
 

@@ -1,6 +1,6 @@
 //! The state of one homeserver's notifications, changed input by input.
 //!
-//! An engine stands for a history, the list of the inputs that it accepted. An input is prepared,
+//! An engine stands for a history by the inputs that it accepted. An input is prepared,
 //! which takes all of its memory, judges it and says whether the history refuses it, and then
 //! applied, which can't fail. Every contract is said of each history for which the engine stands.
 #![tactic(auto)]

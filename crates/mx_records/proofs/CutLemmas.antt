@@ -1,4 +1,4 @@
--- Where events stand, and up to where a thread is read, after one more input.
+-- Where events stand, and up to where a thread is read, after one more entry.
 use Rattle.std.proofs.Common.{◌≡◌, ℕ, ◌+◌, ◌<◌, ◌≤◌, max, zero-le, nat_lt, nat_le, Bool, true, ◌&&◌, List, [], ◌∷◌, ◌++◌, map, filter, find, Some, option_map, unwrap_or, refl, ap, sym, subst, ◌∙◌, arith}
 use Rattle.std.specs.List.{list_all}
 use Rattle.std.specs.Str.{bytes_eq}
@@ -8,12 +8,13 @@ use Rattle.mx_json.specs.declared.value.Json.{Json}
 use Rattle.mx_event.specs.Event.{room_id_of}
 use Rattle.mx_rows.specs.declared.thread_key.ThreadKey.{ThreadKey}
 use Rattle.mx_rows.proofs.RowLemmas.{list_all-filter, list_all-push}
+use Rattle.mx_records.specs.declared.entry.Outcome.{Outcome}
 use Rattle.mx_records.specs.declared.input.Input.{Input}
 use Rattle.mx_records.specs.declared.input.Input.TheVariants.{Event, Edit, Receipt, Pusher}
 use Rattle.mx_records.specs.Cuts.{cut_at, cut_by, cut_of, greatest, moves, reaches}
-use Rattle.mx_records.specs.History.{Arrival, Happening, History, arrivals, arrivals_after, events, inputs_of, position_after, with_input}
+use Rattle.mx_records.specs.History.{Arrival, Happening, History, additions_after, arrivals, events, inputs_of, position_after, with_input, with_outcome}
 use Rattle.mx_records.specs.Places.{is_event_with, position_of}
-use Rattle.mx_records.proofs.HistoryLemmas.{IsNoEvent, arrivals_after-push, by_end, edit-no_event, events-other, events-push, inputs_of-push, next_event, receipt-no_event, pusher-no_event}
+use Rattle.mx_records.proofs.HistoryLemmas.{IsNoEvent, arrivals-outcome, arrivals-push, by_end, edit-no_event, events-other, events-outcome, events-push, inputs_of-outcome, inputs_of-push, next_event, receipt-no_event, pusher-no_event}
 
 -- ---- events rise
 
@@ -83,12 +84,18 @@ stands-more h (Receipt user room id private named) stand =
     stands-other h (Receipt user room id private named) (receipt-no_event user room id private named) stand
 stands-more h (Pusher spec) stand = stands-other h (Pusher spec) (pusher-no_event spec) stand
 
+stands-outcome : (h : History) (outcome : Outcome) → Stands h → Stands (with_outcome h outcome)
+stands-outcome h outcome stand =
+    subst (λ n. StandUpto n (events (with_outcome h outcome)) × Rise (events (with_outcome h outcome)))
+    (sym (inputs_of-outcome h outcome))
+    (subst (λ xs. StandUpto (inputs_of h) xs × Rise xs) (sym (events-outcome h outcome)) stand)
+
 stands-none : Stands []
-unfolding events arrivals_after
+unfolding events additions_after
 stands-none = (refl, tt)
 
 stands : (h : History) → Stands h
-stands h = by_end Stands stands-none stands-more h
+stands h = by_end Stands stands-none stands-more stands-outcome h
 
 pub events-upto : (h : History) → StandUpto (inputs_of h) (events h)
 events-upto h = (stands h).0
@@ -107,9 +114,16 @@ pub cut_of-push : (h : History) (input : Input) (user room : List ℕ) (thread :
     → cut_of (with_input h input) user room thread ≡ max (cut_of h user room thread) (cut_by user room thread h input)
 unfolding cut_of
 cut_of-push h input user room thread =
-    ap (λ (all : List Arrival). greatest (map (cut_at user room thread) all)) (arrivals_after-push [] h input)
+    ap (λ (all : List Arrival). greatest (map (cut_at user room thread) all)) (arrivals-push h input)
     ∙ ap greatest (map-append (cut_at user room thread) (arrivals h) (record { before = h; input = input } ∷ []))
     ∙ greatest-push (map (cut_at user room thread) (arrivals h)) (cut_by user room thread h input)
+
+-- an outcome reads nothing
+pub cut_of-outcome : (h : History) (outcome : Outcome) (user room : List ℕ) (thread : ThreadKey)
+    → cut_of (with_outcome h outcome) user room thread ≡ cut_of h user room thread
+unfolding cut_of
+cut_of-outcome h outcome user room thread =
+    ap (λ (all : List Arrival). greatest (map (cut_at user room thread) all)) (arrivals-outcome h outcome)
 
 found-upto : (n : ℕ) (p : Happening → Bool) (xs : List Happening) → StandUpto n xs
     → unwrap_or (option_map position (find p xs)) 0 ≤ n
@@ -137,13 +151,13 @@ cut_by-le h (Receipt reader named id private of) user room thread =
     (λ n. n ≤ inputs_of h + 1) (λ _. omega arith) (λ _. omega arith)
 
 cut_of-none : (user room : List ℕ) (thread : ThreadKey) → cut_of [] user room thread ≤ 0
-unfolding cut_of arrivals_after
+unfolding cut_of additions_after
 cut_of-none user room thread = zero-le
 
 -- a thread is read at most up to the last input
 pub cut_of-le : (h : History) (user room : List ℕ) (thread : ThreadKey) → cut_of h user room thread ≤ inputs_of h
 cut_of-le h user room thread =
-    by_end (λ h. cut_of h user room thread ≤ inputs_of h) (cut_of-none user room thread) more h
+    by_end (λ h. cut_of h user room thread ≤ inputs_of h) (cut_of-none user room thread) more same h
   where
     more : (h : History) (input : Input) → cut_of h user room thread ≤ inputs_of h
         → cut_of (with_input h input) user room thread ≤ inputs_of (with_input h input)
@@ -151,4 +165,11 @@ cut_of-le h user room thread =
         let longer = inputs_of-push h input in
         let next = cut_of-push h input user room thread in
         let reads = cut_by-le h input user room thread in
+        omega arith
+
+    same : (h : History) (outcome : Outcome) → cut_of h user room thread ≤ inputs_of h
+        → cut_of (with_outcome h outcome) user room thread ≤ inputs_of (with_outcome h outcome)
+    same h outcome upto =
+        let long = inputs_of-outcome h outcome in
+        let next = cut_of-outcome h outcome user room thread in
         omega arith

@@ -20,15 +20,16 @@ use Rattle.mx_rows.specs.declared.row.Row.{Row}
 use Rattle.mx_rows.specs.declared.thread_key.ThreadKey.{ThreadKey}
 use Rattle.mx_rows.specs.Rows.{are_in_order, has_rows}
 use Rattle.mx_rows.specs.Threads.{has_thread, same_thread}
+use Rattle.mx_records.specs.declared.entry.Outcome.{Outcome}
 use Rattle.mx_records.specs.declared.input.Input.{Input}
 use Rattle.mx_records.specs.declared.input.Input.TheVariants.{Event, Edit, Receipt, Pusher}
 use Rattle.mx_records.specs.Counting.{each_once, is_in, is_unread, rows_of, thread_in, threads_of, unread}
-use Rattle.mx_records.specs.History.{Happening, History, arrivals_after, events, with_input}
+use Rattle.mx_records.specs.History.{Happening, History, additions_after, events, with_input, with_outcome}
 use Rattle.mx_records.specs.Judging.{notifies}
 use Rattle.mx_records.specs.KeptRows.{HaveRooms, HaveRows, thread_rows}
 use Rattle.mx_records.specs.Rooms.{events_of}
 use Rattle.mx_records.specs.Snapshot.{RoomRows, by_room, by_user, room_rows, rows_at, rows_by_thread, some_rooms, some_rows, unread_rows}
-use Rattle.mx_records.proofs.HistoryLemmas.{IsNoEvent, by_end, edit-no_event, events-other, events-push, events_of-other, events_of-push, next_event, receipt-no_event, pusher-no_event}
+use Rattle.mx_records.proofs.HistoryLemmas.{IsNoEvent, by_end, edit-no_event, events-other, events-outcome, events-push, events_of-other, events_of-outcome, events_of-push, next_event, receipt-no_event, pusher-no_event}
 use Rattle.mx_records.proofs.NoticeLemmas.{notice-unnamed}
 use Rattle.mx_records.proofs.ThreadLemmas.{has-threads_of, threads_of-only}
 use Rattle.mx_records.proofs.UnreadLemmas.{same_thread-same}
@@ -136,12 +137,17 @@ module _ (server user : List ℕ) where
       unnoticed-other h (Receipt reader room id private named) (receipt-no_event reader room id private named) before
   unnoticed-more h (Pusher spec) before = unnoticed-other h (Pusher spec) (pusher-no_event spec) before
 
+  unnoticed-outcome : (h : History) (outcome : Outcome) → IsUnnoticed h → IsUnnoticed (with_outcome h outcome)
+  unnoticed-outcome h outcome before unnamed =
+      ap (list_any (notifies server user)) (events-outcome h outcome)
+      ∙ before (ap (names user) (sym (events_of-outcome h outcome)) ∙ unnamed)
+
   unnoticed-none : IsUnnoticed []
-  unfolding events arrivals_after
+  unfolding events additions_after
   unnoticed-none unnamed = refl
 
   unnoticed : (h : History) → IsUnnoticed h
-  unnoticed h = by_end IsUnnoticed unnoticed-none unnoticed-more h
+  unnoticed h = by_end IsUnnoticed unnoticed-none unnoticed-more unnoticed-outcome h
 
 -- ---- what is kept of a user in a room
 

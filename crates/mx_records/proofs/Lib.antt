@@ -19,3 +19,4 @@ pub mod EntryLemmas
 pub mod PostingLemmas
 pub mod DepthLemmas
 pub mod PendingLemmas
+pub mod ValidLemmas

@@ -13,15 +13,16 @@ use Rattle.mx_rows.specs.declared.thread_key.ThreadKey.TheVariants.{Main, Root}
 use Rattle.mx_rows.specs.Threads.{same_thread}
 use Rattle.mx_thread.specs.declared.place.Place.{Place}
 use Rattle.mx_thread.specs.Place.{Places, place_in}
+use Rattle.mx_records.specs.declared.entry.Outcome.{Outcome}
 use Rattle.mx_records.specs.declared.input.Input.{Input}
 use Rattle.mx_records.specs.declared.input.Input.TheVariants.{Event, Edit, Receipt, Pusher}
 use Rattle.mx_records.specs.declared.refusal.Refusal.{Refusal}
 use Rattle.mx_records.specs.declared.refusal.Refusal.TheVariants.{NotInThread, UnknownEvent}
 use Rattle.mx_records.specs.Counting.{is_in, thread_in}
-use Rattle.mx_records.specs.History.{Happening, History, arrivals_after, events, position_after, with_input}
+use Rattle.mx_records.specs.History.{Happening, History, additions_after, events, position_after, with_input, with_outcome}
 use Rattle.mx_records.specs.Places.{is_event_with, place_among, places_of, position_of, with_place}
 use Rattle.mx_records.specs.Refusing.{is_read_in, refusal_of_read}
-use Rattle.mx_records.proofs.HistoryLemmas.{IsNoEvent, by_end, edit-no_event, events-other, events-push, next_event, places_of-other, places_of-push, receipt-no_event, pusher-no_event}
+use Rattle.mx_records.proofs.HistoryLemmas.{IsNoEvent, by_end, edit-no_event, events-other, events-outcome, events-push, next_event, places_of-other, places_of-outcome, places_of-push, receipt-no_event, pusher-no_event}
 
 -- an id that has no place gets that of the event
 pub with_place-new : (places : Places) (happening : Happening)
@@ -131,13 +132,19 @@ placed-more id h (Receipt reader room named private of) before =
     placed-other id h (Receipt reader room named private of) (receipt-no_event reader room named private of) before
 placed-more id h (Pusher spec) before = placed-other id h (Pusher spec) (pusher-no_event spec) before
 
+placed-outcome : (id : List ℕ) (h : History) (outcome : Outcome) → IsPlaced id h → IsPlaced id (with_outcome h outcome)
+placed-outcome id h outcome before =
+    ap (λ (p : Places). place_in p id) (places_of-outcome h outcome)
+    ∙ before
+    ∙ ap (λ (xs : List Happening). option_map place_of (find (is_event_with id) xs)) (sym (events-outcome h outcome))
+
 placed-none : (id : List ℕ) → IsPlaced id []
-unfolding places_of events arrivals_after
+unfolding places_of events additions_after
 placed-none id = get-empty (slice_cmp nat_cmp) id
 
 pub place_in-events : (h : History) (id : List ℕ)
     → place_in (places_of h) id ≡ option_map place_of (find (is_event_with id) (events h))
-place_in-events h id = by_end (IsPlaced id) (placed-none id) (placed-more id) h
+place_in-events h id = by_end (IsPlaced id) (placed-none id) (placed-more id) (placed-outcome id) h
 
 position_by : (found : Option Happening)
     → option_map (λ (x : Happening). position_after x.before) found

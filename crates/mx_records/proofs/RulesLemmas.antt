@@ -1,4 +1,4 @@
--- How each user's rules go on by one input, and the rules of those who edited them.
+-- How each user's rules go on by one entry, and the rules of those who edited them.
 use Rattle.std.proofs.Common.{◌≡◌, ℕ, Bool, true, false, cond, ◌||◌, List, [], ◌∷◌, ◌++◌, Option, Some, None, ◌⊎◌, inl, inr, is_some, unwrap_or, refl, ap, sym, ◌∙◌}
 use Rattle.std.specs.FinMap.{get, insert}
 use Rattle.std.specs.List.{cons_option, filter_map, fold, list_any}
@@ -8,21 +8,26 @@ use Rattle.std.proofs.lemmas.List.Folds.{list_any-append}
 use Rattle.std.proofs.lemmas.List.Sums.{fold-append}
 use Rattle.mx_json.specs.declared.value.Json.{Json}
 use Rattle.mx_rows.specs.declared.thread_key.ThreadKey.{ThreadKey}
+use Rattle.mx_room.specs.Texts.{table}
 use Rattle.mx_room.proofs.TextsLemmas.{IsCovered, bytes_eq-itself, bytes_eq-same, get-table, same_table, table-set}
 use Rattle.mx_rule.specs.declared.edit.Edit.{Edit}
 use Rattle.mx_rule.specs.Editing.{edited}
 use Rattle.mx_rule.specs.Predefined.{predefined_rules}
 use Rattle.mx_rule.specs.Ruleset.{PushRuleset}
+use Rattle.mx_records.specs.declared.entry.Outcome.{Outcome}
 use Rattle.mx_records.specs.declared.input.Input.{Input}
 use Rattle.mx_records.specs.declared.input.Input.TheVariants.{Event, Edit as EditInput, Receipt, Pusher}
-use Rattle.mx_records.specs.History.{History, with_input}
-use Rattle.mx_records.specs.Rules.{edit_by, edited_rules, editor_of, edits_of, has_edited, is_edit_of, own_rules, rules_among, rules_of}
+use Rattle.mx_records.specs.History.{History, inputs_in, with_input, with_outcome}
+use Rattle.mx_records.specs.Rules.{edit_by, edited_rules, editor_of, editors_of, edits_of, has_edited, is_edit_of, own_rules, rules_among, rules_of}
+use Rattle.mx_records.proofs.HistoryLemmas.{inputs_in-outcome, inputs_in-push}
 
 -- ---- the rules after one more input
 
 edits_of-push : (h : History) (input : Input) (user : List ℕ)
     → edits_of (with_input h input) user ≡ edits_of h user ++ cons_option (edit_by user input) []
-edits_of-push h input user = filter_map-append (edit_by user) h (input ∷ [])
+edits_of-push h input user =
+    ap (filter_map (edit_by user)) (inputs_in-push h input)
+    ∙ filter_map-append (edit_by user) (inputs_in h) (input ∷ [])
 
 -- the rules, changed by the edit that there is, if there is one
 abbrev changed_by : PushRuleset → Option Edit → PushRuleset
@@ -82,7 +87,9 @@ rules_of-others server h editor edit user apart =
 
 has_edited-push : (h : History) (input : Input) (user : List ℕ)
     → has_edited (with_input h input) user ≡ (has_edited h user || (is_edit_of user input || false))
-has_edited-push h input user = list_any-append (is_edit_of user) h (input ∷ [])
+has_edited-push h input user =
+    ap (list_any (is_edit_of user)) (inputs_in-push h input)
+    ∙ list_any-append (is_edit_of user) (inputs_in h) (input ∷ [])
 
 or_false : (b : Bool) → (b || false) ≡ b
 or_false true = refl
@@ -92,27 +99,35 @@ is_some-given : {X : Type 0} (b : Bool) (x : X) → is_some (cond b (Some x) Non
 is_some-given true x = refl
 is_some-given false x = refl
 
--- who edited the rules is among the editors
-has_edited-editors : (h : History) (user : List ℕ)
-    → has_edited h user ≡ list_any (bytes_eq user) (filter_map editor_of h)
-has_edited-editors [] user = refl
-has_edited-editors (Event event ∷ h) user = has_edited-editors h user
-has_edited-editors (Receipt reader room id private named ∷ h) user = has_edited-editors h user
-has_edited-editors (Pusher spec ∷ h) user = has_edited-editors h user
-has_edited-editors (EditInput editor edit ∷ h) user =
-    ap (λ b. b || has_edited h user) (is_some-given (bytes_eq user editor) edit)
-    ∙ ap (λ b. bytes_eq user editor || b) (has_edited-editors h user)
+-- who made an edit is among the editors
+any_edit-editors : (inputs : List Input) (user : List ℕ)
+    → list_any (is_edit_of user) inputs ≡ list_any (bytes_eq user) (filter_map editor_of inputs)
+any_edit-editors [] user = refl
+any_edit-editors (Event event ∷ inputs) user = any_edit-editors inputs user
+any_edit-editors (Receipt reader room id private named ∷ inputs) user = any_edit-editors inputs user
+any_edit-editors (Pusher spec ∷ inputs) user = any_edit-editors inputs user
+any_edit-editors (EditInput editor edit ∷ inputs) user =
+    ap (λ b. b || list_any (is_edit_of user) inputs) (is_some-given (bytes_eq user editor) edit)
+    ∙ ap (λ b. bytes_eq user editor || b) (any_edit-editors inputs user)
+
+has_edited-editors : (h : History) (user : List ℕ) → has_edited h user ≡ list_any (bytes_eq user) (editors_of h)
+has_edited-editors h user = any_edit-editors (inputs_in h) user
 
 none_by : (edit : Option Edit) (edits : List Edit) (others : Bool) → (is_some edit || others) ≡ false
     → (others ≡ false → edits ≡ []) → cons_option edit edits ≡ []
 none_by None edits others none rest = rest none
 none_by (Some edit) edits others none rest = absurd cc
 
+edits_none : (inputs : List Input) (user : List ℕ) → list_any (is_edit_of user) inputs ≡ false
+    → filter_map (edit_by user) inputs ≡ []
+edits_none [] user none = refl
+edits_none (input ∷ inputs) user none =
+    none_by (edit_by user input) (filter_map (edit_by user) inputs) (list_any (is_edit_of user) inputs) none
+    (edits_none inputs user)
+
 -- who edited nothing has no edits
 no_edits : (h : History) (user : List ℕ) → has_edited h user ≡ false → edits_of h user ≡ []
-no_edits [] user none = refl
-no_edits (input ∷ h) user none =
-    none_by (edit_by user input) (edits_of h user) (has_edited h user) none (no_edits h user)
+no_edits h user none = edits_none (inputs_in h) user none
 
 -- ---- the rules of those who edited them
 
@@ -121,11 +136,11 @@ own_by : (server : List ℕ) (h : History) (user : List ℕ) (has : Bool) → ha
 unfolding own_rules
 own_by server h user has is = ap (λ b. cond b (Some (rules_of server h user)) None) is
 
-own_rules-covered : (server : List ℕ) (h : History) → IsCovered (own_rules server h) (filter_map editor_of h)
+own_rules-covered : (server : List ℕ) (h : History) → IsCovered (own_rules server h) (editors_of h)
 own_rules-covered server h user = by (has_edited h user) refl
   where
     by : (has : Bool) → has_edited h user ≡ has
-        → (own_rules server h user ≡ None) ⊎ (list_any (bytes_eq user) (filter_map editor_of h) ≡ true)
+        → (own_rules server h user ≡ None) ⊎ (list_any (bytes_eq user) (editors_of h) ≡ true)
     by true is = inr (sym (has_edited-editors h user) ∙ is)
     by false is = inl (own_by server h user false is)
 
@@ -134,7 +149,7 @@ pub get-edited_rules : (server : List ℕ) (h : History) (user : List ℕ)
     → get (edited_rules server h) user ≡ own_rules server h user
 unfolding edited_rules
 get-edited_rules server h user =
-    get-table (own_rules server h) (filter_map editor_of h) (own_rules-covered server h) user
+    get-table (own_rules server h) (editors_of h) (own_rules-covered server h) user
 
 rules-by : (server : List ℕ) (h : History) (user : List ℕ) (has : Bool) → has_edited h user ≡ has
     → unwrap_or (cond has (Some (rules_of server h user)) None) (predefined_rules server user)
@@ -205,8 +220,8 @@ pub edited_rules-other : (server : List ℕ) (h : History) (input : Input) → I
     → edited_rules server (with_input h input) ≡ edited_rules server h
 unfolding edited_rules
 edited_rules-other server h input none =
-    same_table (own_rules server h) (own_rules server (with_input h input)) (filter_map editor_of h)
-    (filter_map editor_of (with_input h input)) (own_rules-covered server h)
+    same_table (own_rules server h) (own_rules server (with_input h input)) (editors_of h)
+    (editors_of (with_input h input)) (own_rules-covered server h)
     (own_rules-covered server (with_input h input)) (own_rules-other server h input none)
 
 -- the map after an edit
@@ -215,7 +230,29 @@ pub edited_rules-edit : (server : List ℕ) (h : History) (user : List ℕ) (edi
     ≡ insert (edited_rules server h) user (edited (rules_of server h user) edit)
 unfolding edited_rules
 edited_rules-edit server h user edit =
-    table-set (own_rules server h) (own_rules server (with_input h (EditInput user edit))) (filter_map editor_of h)
-    (filter_map editor_of (with_input h (EditInput user edit))) user
+    table-set (own_rules server h) (own_rules server (with_input h (EditInput user edit))) (editors_of h)
+    (editors_of (with_input h (EditInput user edit))) user
     (Some (edited (rules_of server h user) edit)) (own_rules-covered server h)
     (own_rules-covered server (with_input h (EditInput user edit))) (own_rules-edit server h user edit)
+
+-- ---- an outcome
+
+-- an outcome changes no rules
+pub rules_of-outcome : (server : List ℕ) (h : History) (outcome : Outcome)
+    → rules_of server (with_outcome h outcome) ≡ rules_of server h
+unfolding rules_of
+rules_of-outcome server h outcome = λ i user.
+    fold edited (predefined_rules server user) (filter_map (edit_by user) (inputs_in-outcome h outcome i))
+
+own_rules-outcome : (server : List ℕ) (h : History) (outcome : Outcome)
+    → own_rules server (with_outcome h outcome) ≡ own_rules server h
+unfolding own_rules
+own_rules-outcome server h outcome = λ i user.
+    cond (list_any (is_edit_of user) (inputs_in-outcome h outcome i))
+    (Some (rules_of-outcome server h outcome i user)) None
+
+pub edited_rules-outcome : (server : List ℕ) (h : History) (outcome : Outcome)
+    → edited_rules server (with_outcome h outcome) ≡ edited_rules server h
+unfolding edited_rules
+edited_rules-outcome server h outcome = λ i.
+    table (own_rules-outcome server h outcome i) (filter_map editor_of (inputs_in-outcome h outcome i))

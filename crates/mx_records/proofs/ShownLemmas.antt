@@ -11,13 +11,14 @@ use Rattle.mx_rows.specs.declared.row.Row.{Row}
 use Rattle.mx_rows.specs.declared.thread_key.ThreadKey.{ThreadKey}
 use Rattle.mx_rows.specs.Rows.{are_in_order, counts_in, has_rows, is_rising, with_rows}
 use Rattle.mx_rows.specs.Threads.{has_thread, same_thread}
+use Rattle.mx_records.specs.declared.entry.Outcome.{Outcome}
 use Rattle.mx_records.specs.declared.input.Input.{Input}
 use Rattle.mx_records.specs.declared.input.Input.TheVariants.{Event, Edit, Receipt, Pusher}
 use Rattle.mx_records.specs.Counting.{counts_of, is_unread, room_counts_of, row_of, rows_of, threads_of, thread_in, unread, unread_in}
-use Rattle.mx_records.specs.History.{Happening, History, arrivals_after, events, inputs_of, with_input}
+use Rattle.mx_records.specs.History.{Happening, History, additions_after, events, inputs_of, with_input, with_outcome}
 use Rattle.mx_records.specs.KeptRows.{thread_rows}
 use Rattle.mx_records.specs.Snapshot.{RoomRows, Snapshot, ThreadRows, room_rows, rows_at, rows_by_thread, snapshot_of}
-use Rattle.mx_records.proofs.HistoryLemmas.{by_end, edit-no_event, events-other, events-push, inputs_of-push, next_event, receipt-no_event, pusher-no_event}
+use Rattle.mx_records.proofs.HistoryLemmas.{by_end, edit-no_event, events-other, events-outcome, events-push, inputs_of-outcome, inputs_of-push, next_event, receipt-no_event, pusher-no_event}
 use Rattle.mx_records.proofs.KeptLemmas.{room_rows-lists, room_rows-only, rows_at-unread, thread_rows-room}
 use Rattle.mx_records.proofs.ThreadLemmas.{distinct-filter, room_counts_of-threads}
 use Rattle.mx_records.proofs.UnreadLemmas.{same_thread-same}
@@ -172,13 +173,19 @@ fewer-more h (Pusher spec) few =
     let same = ap length (events-other h (Pusher spec) (pusher-no_event spec)) in
     omega arith
 
+fewer-outcome : (h : History) (outcome : Outcome) → AreFewer h → AreFewer (with_outcome h outcome)
+fewer-outcome h outcome few =
+    let long = inputs_of-outcome h outcome in
+    let same = ap length (events-outcome h outcome) in
+    omega arith
+
 fewer-none : AreFewer []
-unfolding events arrivals_after
+unfolding events additions_after
 fewer-none = zero-le
 
 -- a history has no more events than inputs
 pub events-le : (h : History) → length (events h) ≤ inputs_of h
-events-le h = by_end AreFewer fewer-none fewer-more h
+events-le h = by_end AreFewer fewer-none fewer-more fewer-outcome h
 
 filter-le : {X : Type 0} (p : X → Bool) (xs : List X) → length (filter p xs) ≤ length xs
 filter-le p xs =

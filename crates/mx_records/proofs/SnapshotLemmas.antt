@@ -20,21 +20,22 @@ use Rattle.mx_rows.specs.Rows.{above, are_in_order, has_rows}
 use Rattle.mx_rows.specs.Threads.{has_thread, same_thread}
 use Rattle.mx_rule.specs.declared.edit.Edit.{Edit}
 use Rattle.mx_rule.specs.Editing.{edited}
+use Rattle.mx_records.specs.declared.entry.Outcome.{Outcome}
 use Rattle.mx_records.specs.declared.input.Input.{Input}
 use Rattle.mx_records.specs.declared.input.Input.TheVariants.{Event, Edit as EditInput, Receipt}
 use Rattle.mx_records.specs.Counting.{rows_of, threads_of}
 use Rattle.mx_records.specs.Cuts.{moves, moves_to}
-use Rattle.mx_records.specs.History.{History, inputs_of, with_input}
+use Rattle.mx_records.specs.History.{History, inputs_of, with_input, with_outcome}
 use Rattle.mx_records.specs.Places.{places_of, position_of, with_place}
 use Rattle.mx_records.specs.Rooms.{events_of}
 use Rattle.mx_records.specs.Rules.{edited_rules, rules_of}
 use Rattle.mx_records.specs.KeptRows.{HaveRooms, thread_rows}
 use Rattle.mx_records.specs.Snapshot.{RoomRows, room_rows, rows_at, rows_by_thread, snapshot_of, unread_rows}
-use Rattle.mx_records.proofs.HistoryLemmas.{edit-no_event, events_of-other, events_of-push, inputs_of-push, next_event, places_of-other, places_of-push, receipt-no_event}
+use Rattle.mx_records.proofs.HistoryLemmas.{edit-no_event, events_of-other, events_of-outcome, events_of-push, inputs_of-outcome, inputs_of-push, next_event, places_of-other, places_of-outcome, places_of-push, receipt-no_event}
 use Rattle.mx_records.proofs.KeptLemmas.{room_rows-only, rows_at-unread, thread_rows-room, unread_rows-kept, unread_rows-only}
-use Rattle.mx_records.proofs.RulesLemmas.{edited_rules-edit, edited_rules-other, event-no_edit, receipt-no_edit}
+use Rattle.mx_records.proofs.RulesLemmas.{edited_rules-edit, edited_rules-other, edited_rules-outcome, event-no_edit, receipt-no_edit}
 use Rattle.mx_records.proofs.ThreadLemmas.{has-threads_of, threads_of-in_order, threads_of-once}
-use Rattle.mx_records.proofs.UnreadLemmas.{moves_in, next_row, reads, rows_of-edit, rows_of-event, rows_of-receipt}
+use Rattle.mx_records.proofs.UnreadLemmas.{moves_in, next_row, reads, rows_of-edit, rows_of-event, rows_of-outcome, rows_of-receipt}
 
 -- ---- rows of one user in one room
 
@@ -211,6 +212,28 @@ snapshot_of-receipt server h reader room id private named =
       rules = rules i;
       unread = unread_rows server (with_input h input);
     }
+
+-- an outcome leaves all rows as they were
+pub unread_rows-outcome : (server : List ℕ) (h : History) (outcome : Outcome)
+    → unread_rows server (with_outcome h outcome) ≡ unread_rows server h
+unread_rows-outcome server h outcome =
+    let later = with_outcome h outcome in
+    unread_rows-only server h (unread_rows server later) (unread_rows-kept server later) (λ user room.
+    rows_at-unread server later user room
+    ∙ room_rows-alike server later h user room (λ t. rows_of-outcome server h outcome user room t))
+
+-- an outcome leaves all that is known as it was
+pub snapshot_of-outcome : (server : List ℕ) (h : History) (outcome : Outcome)
+    → snapshot_of server (with_outcome h outcome) ≡ snapshot_of server h
+unfolding snapshot_of
+snapshot_of-outcome server h outcome =
+    let inputs = inputs_of-outcome h outcome in
+    let places = places_of-outcome h outcome in
+    let rooms : rooms_of (events_of (with_outcome h outcome)) ≡ rooms_of (events_of h) =
+    ap rooms_of (events_of-outcome h outcome) in
+    let rules = edited_rules-outcome server h outcome in
+    let unread = unread_rows-outcome server h outcome in
+    λ i. record { inputs = inputs i; places = places i; rooms = rooms i; rules = rules i; unread = unread i }
 
 -- ---- whom an event moves
 

@@ -18,15 +18,16 @@ use Rattle.mx_rows.specs.Rows.{above, is_rising}
 use Rattle.mx_rows.specs.Threads.{same_thread}
 use Rattle.mx_rows.proofs.CutLemmas.{above-all}
 use Rattle.mx_rows.proofs.RowLemmas.{list_all-filter}
+use Rattle.mx_records.specs.declared.entry.Outcome.{Outcome}
 use Rattle.mx_records.specs.declared.input.Input.{Input}
 use Rattle.mx_records.specs.declared.input.Input.TheVariants.{Event, Edit as EditInput, Receipt}
 use Rattle.mx_records.specs.Counting.{is_in, row_of, rows_of, thread_in, unread, unread_in}
 use Rattle.mx_records.specs.Cuts.{cut_by, cut_of, moves, reaches}
-use Rattle.mx_records.specs.History.{Happening, History, events, inputs_of, position_after, with_input}
+use Rattle.mx_records.specs.History.{Happening, History, events, inputs_of, position_after, with_input, with_outcome}
 use Rattle.mx_records.specs.Judging.{notifies}
 use Rattle.mx_records.specs.Places.{position_of}
-use Rattle.mx_records.proofs.CutLemmas.{Rise, StandUpto, cut_of-le, cut_of-push, events-rise, events-upto, position, rise-filter}
-use Rattle.mx_records.proofs.HistoryLemmas.{IsNoEvent, edit-no_event, events-other, events-push, next_event, receipt-no_event}
+use Rattle.mx_records.proofs.CutLemmas.{Rise, StandUpto, cut_of-le, cut_of-outcome, cut_of-push, events-rise, events-upto, position, rise-filter}
+use Rattle.mx_records.proofs.HistoryLemmas.{IsNoEvent, edit-no_event, events-other, events-outcome, events-push, next_event, receipt-no_event}
 
 -- keys of the same thread are equal
 pub same_thread-same : (s t : ThreadKey) → same_thread s t ≡ true → s ≡ t
@@ -248,6 +249,17 @@ rows_of-receipt server h reader named id private of user room thread =
         ≡ cond b (above (unwrap_or (position_of h id) 0) rows) rows
     by true = refl
     by false = rows_of-whole server h user room thread
+
+-- ---- an outcome
+
+-- an outcome leaves the rows as they were
+pub rows_of-outcome : (server : List ℕ) (h : History) (outcome : Outcome) (user room : List ℕ) (thread : ThreadKey)
+    → rows_of server (with_outcome h outcome) user room thread ≡ rows_of server h user room thread
+rows_of-outcome server h outcome user room thread =
+    rows_of-told server (with_outcome h outcome) user room thread
+    ∙ (λ i. above (cut_of-outcome h outcome user room thread i)
+    (told_rows server (events-outcome h outcome i) user room thread))
+    ∙ sym (rows_of-told server h user room thread)
 
 -- ---- an event
 

@@ -5,6 +5,7 @@ pub mod Judging
 pub mod Places
 pub mod Cuts
 pub mod Counting
+pub mod Pushers
 pub mod Refusing
 pub mod Snapshot
 pub mod KeptRows

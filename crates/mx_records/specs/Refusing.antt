@@ -1,5 +1,6 @@
--- Which inputs and questions a history refuses, and which inputs it may go on with: ours.
-use Rattle.std.specs.Prelude.{ℕ, ◌≤◌, List, length, map, ◌≡◌, Bool, true, not, ◌||◌, nat_le, nat_lt, if◌then◌else◌, Option, None, Some, option_map, find, All}
+-- Which inputs and questions a history refuses, and which entries it may go on with: ours.
+use Rattle.std.specs.Prelude.{ℕ, ◌≤◌, ◌<◌, List, length, map, ◌≡◌, Bool, true, not, ◌&&◌, ◌||◌, nat_eq, nat_le, nat_lt, if◌then◌else◌, Option, None, Some, option_map, find, All}
+use Rattle.std.specs.List.{list_any}
 use Rattle.std.specs.Option.{option_map_or, option_or}
 use Rattle.std.specs.Str.{bytes_eq}
 use Rattle.mx_json.specs.Ids.{is_local}
@@ -12,15 +13,19 @@ use Rattle.mx_records.specs.declared.input.Input.TheVariants.{Event, Edit, Recei
 use Rattle.mx_records.specs.declared.refusal.Refusal.{Refusal}
 use Rattle.mx_records.specs.declared.refusal.Refusal.TheVariants.{NotLocal, KnownEvent, UnknownEvent, NotInThread, RuleReserved, BadRule, RuleUnknown, AnchorUnknown, RulesFull, EntryTooLong, Full}
 use Rattle.mx_json.specs.Json.{depth_of}
-use Rattle.mx_records.specs.declared.entry.Entry.TheVariants.{Input as InputEntry}
-use Rattle.mx_records.specs.Entries.{payload_of}
-use Rattle.mx_records.specs.History.{Happening, History, arrivals, events, inputs_of}
+use Rattle.mx_records.specs.declared.entry.Entry.{Entry}
+use Rattle.mx_records.specs.declared.entry.Entry.TheVariants.{Input as InputEntry, Outcome as OutcomeEntry}
+use Rattle.mx_records.specs.declared.entry.Outcome.{Outcome}
+use Rattle.mx_records.specs.Entries.{payload_of, pusher_of, settled_by}
+use Rattle.mx_records.specs.History.{Happening, History, additions, events, inputs_of, position_after}
+use Rattle.mx_records.specs.Judging.{notifies}
 use Rattle.mx_records.specs.Normal.{normal_of, IsNormal}
 use Rattle.mx_rows.specs.declared.thread_key.ThreadKey.{ThreadKey}
 use Rattle.mx_rows.specs.declared.thread_key.ThreadKey.TheVariants.{Main, Root}
 use Rattle.mx_rows.specs.Threads.{same_thread}
 use Rattle.mx_records.specs.Counting.{is_in, thread_in}
 use Rattle.mx_records.specs.Places.{is_event_with, position_of}
+use Rattle.mx_records.specs.Pushers.{Living, has_number, pushers_of}
 use Rattle.mx_records.specs.Rules.{rules_of}
 
 -- as many inputs as a history may have
@@ -109,18 +114,36 @@ IsBuilt (Pusher spec) = ⊥
 
 -- An input may come next where it is one that its object stands for, it is built, and nothing refuses
 -- it.
-pub record IsAcceptable (server : List ℕ) (h : History) (input : Input) : Type 0 where
+pub record IsAcceptableInput (server : List ℕ) (h : History) (input : Input) : Type 0 where
   pub normal : IsNormal input
   pub built : IsBuilt input
   pub unrefused : refusal_of server h input ≡ None
 
--- Each input of a history is acceptable after those before it.
+-- an event stands at this position, and notifies this user
+abbrev pub notifies_at : List ℕ → List ℕ → ℕ → Happening → Bool
+notifies_at server user position happening =
+    nat_eq (position_after happening.before) position && notifies server user happening
+
+-- An outcome may come next where its pusher lives, its position is that of an event which notifies the
+-- pusher's user, and it lies above the pusher's cursor.
+pub record IsAcceptableOutcome (server : List ℕ) (h : History) (outcome : Outcome) : Type 0 where
+  pub pusher : Living
+  pub lives : find (has_number (pusher_of outcome)) (pushers_of h) ≡ Some pusher
+  pub notified : list_any (notifies_at server pusher.spec.user (settled_by outcome)) (events h) ≡ true
+  pub above_cursor : pusher.settled < settled_by outcome
+
+-- An entry may come next where its input or its outcome may.
+abbrev pub IsAcceptable : List ℕ → History → Entry → Type 0
+IsAcceptable server h (InputEntry input) = IsAcceptableInput server h input
+IsAcceptable server h (OutcomeEntry outcome) = IsAcceptableOutcome server h outcome
+
+-- Each entry of a history is acceptable after those before it.
 unfoldable pub IsValid : List ℕ → History → Type 0
-IsValid server h = All (λ arrival. IsAcceptable server arrival.before arrival.input) (arrivals h)
+IsValid server h = All (λ addition. IsAcceptable server addition.before addition.entry) (additions h)
 
 -- The payloads of a history, in order: what a journal keeps of it.
 unfoldable pub payloads_of : History → List (List ℕ)
-payloads_of h = map (λ input. payload_of (InputEntry input)) h
+payloads_of h = map payload_of h
 
 -- a position that a refusal names is one that an input can have
 abbrev pub NamesAPosition : Refusal → Type 0

@@ -11,7 +11,7 @@ use Rattle.mx_rule.specs.Predefined.{predefined_rules}
 use Rattle.mx_rule.specs.Ruleset.{PushRuleset}
 use Rattle.mx_records.specs.declared.input.Input.{Input}
 use Rattle.mx_records.specs.declared.input.Input.TheVariants.{Event, Edit as EditInput, Receipt, Pusher}
-use Rattle.mx_records.specs.History.{History}
+use Rattle.mx_records.specs.History.{History, inputs_in}
 
 -- the JSON values that an input holds are valid
 abbrev pub is_valid_input : Input → Bool
@@ -29,7 +29,7 @@ edit_by user (Pusher spec) = None
 
 -- the edits of a user's rules, oldest first
 abbrev pub edits_of : History → List ℕ → List Edit
-edits_of h user = filter_map (edit_by user) h
+edits_of h user = filter_map (edit_by user) (inputs_in h)
 
 -- The rules of a user after a history: the predefined ones, changed by each of the user's edits in
 -- turn.
@@ -44,7 +44,7 @@ is_edit_of user input = is_some (edit_by user input)
 
 -- the user edited the rules
 abbrev pub has_edited : History → List ℕ → Bool
-has_edited h user = list_any (is_edit_of user) h
+has_edited h user = list_any (is_edit_of user) (inputs_in h)
 
 -- The rules of a user who edited them; nothing for any other, whose rules are the predefined ones.
 unfoldable pub own_rules : List ℕ → History → List ℕ → Option PushRuleset
@@ -57,9 +57,13 @@ editor_of (EditInput editor edit) = Some editor
 editor_of (Receipt reader room id private thread) = None
 editor_of (Pusher spec) = None
 
+-- the users whose rules a history edits, as often as it edits them
+abbrev pub editors_of : History → List (List ℕ)
+editors_of h = filter_map editor_of (inputs_in h)
+
 -- The rules of each user who edited them.
 unfoldable pub edited_rules : List ℕ → History → Texts PushRuleset
-edited_rules server h = table (own_rules server h) (filter_map editor_of h)
+edited_rules server h = table (own_rules server h) (editors_of h)
 
 -- the rules of a user, where these are the rules of those who edited them
 abbrev pub rules_among : List ℕ → Texts PushRuleset → List ℕ → PushRuleset

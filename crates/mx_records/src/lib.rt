@@ -1,10 +1,11 @@
 //! What a history of notifications is made of, what it refuses, and what it answers.
 //!
-//! A history is the list of the inputs that were accepted; each answer is a definition over the
-//! whole list (`specs/`): the room after an event (`Rooms.antt`), each user's rules (`Rules.antt`),
-//! whom an event notifies (`Judging.antt`), its place and thread (`Places.antt`), up to where a
-//! user has read (`Cuts.antt`), what is unread (`Counting.antt`), what is refused
-//! (`Refusing.antt`). An input is read from a JSON object by the form that its word asks for
+//! A history is the list of its entries: the inputs that were accepted, and how notifications were
+//! settled. Each answer is a definition over the whole list (`specs/`): the room after an event
+//! (`Rooms.antt`), each user's rules (`Rules.antt`), whom an event notifies (`Judging.antt`), its
+//! place and thread (`Places.antt`), up to where a user has read (`Cuts.antt`), what is unread
+//! (`Counting.antt`), which pushers live (`Pushers.antt`), what is refused and which entry may come
+//! next (`Refusing.antt`). An input is read from a JSON object by the form that its word asks for
 //! (`specs/Forms.antt`). A state that stands for a history shows a snapshot of it, and is asked by
 //! way of [`Questions`].
 #![tactic(auto)]
