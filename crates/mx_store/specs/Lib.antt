@@ -1,0 +1,3 @@
+pub mod Standing
+pub mod Store
+pub mod Opening
