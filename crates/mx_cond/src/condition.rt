@@ -110,7 +110,7 @@ impl Condition {
         self.wanted.wants_name()
     }
 
-    /// An equal condition of its own.
+    /// An equal condition of its own. Its value isn't read again.
     ///
     /// # Errors
     ///
@@ -118,10 +118,8 @@ impl Condition {
     pub fn copied(&self, alloc: Global) -> Result<Condition, OutOfMemory>
         ensures { IfOk result (λ condition. condition ≡ self.now) }
     {
-        match Condition::from_json(alloc, &self.json) {
-            Ok(condition) => Ok(condition),
-            Err(ConditionError::OutOfMemory) => Err(OutOfMemory),
-            Err(ConditionError::BadCondition) => unreachable!(),
-        }
+        let wanted = self.wanted.copied(alloc)?;
+        let json = self.json.copied(alloc)?;
+        Ok(Condition { json, wanted })
     }
 }

@@ -1,10 +1,10 @@
-ghost use Rattle.std.specs.Prelude.{◌↔◌, Some, IsTrue};
+ghost use Rattle.std.specs.Prelude.{◌≡◌, ◌↔◌, Some, IfOk, IsTrue};
 ghost use Rattle.mx_json.specs.Gives.{Gives};
 ghost use Rattle.mx_cond.specs.Condition.{or_bad, plain_of};
 ghost use Rattle.mx_cond.specs.Holds.{Equals};
 
 use crate::error::ConditionError;
-use mx_json::{Json, JsonText};
+use mx_json::{Json, JsonText, OutOfMemory};
 use std::alloc::Global;
 
 /// A JSON value that is neither a list nor an object.
@@ -27,6 +27,18 @@ impl Plain {
             Json::Whole(number) => Ok(Plain::Whole(*number)),
             Json::Text(text) => Ok(Plain::Text(text.copied(alloc)?)),
             Json::List(_) | Json::Object(_) => Err(ConditionError::BadCondition),
+        }
+    }
+
+    /// An equal value of its own.
+    pub fn copied(&self, alloc: Global) -> Result<Plain, OutOfMemory>
+        ensures { IfOk result (λ plain. plain ≡ self.now) }
+    {
+        match self {
+            Plain::Null => Ok(Plain::Null),
+            Plain::Truth(truth) => Ok(Plain::Truth(*truth)),
+            Plain::Whole(number) => Ok(Plain::Whole(*number)),
+            Plain::Text(text) => Ok(Plain::Text(text.copied(alloc)?)),
         }
     }
 

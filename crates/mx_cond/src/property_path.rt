@@ -1,4 +1,4 @@
-ghost use Rattle.std.specs.Prelude.{◌≡◌, [], ◌∷◌, option_and_then, IfSome, IsAscii, IsTrue};
+ghost use Rattle.std.specs.Prelude.{◌≡◌, [], ◌∷◌, option_and_then, IfOk, IfSome, IsAscii, IsTrue};
 ghost use Rattle.std.specs.Option.{option_copied};
 ghost use Rattle.mx_json.specs.Json.{text_of};
 ghost use Rattle.mx_json.specs.Path.{look};
@@ -6,7 +6,8 @@ ghost use Rattle.mx_event.specs.Property.{path_of};
 ghost use Rattle.mx_cond.specs.Body.{body_path, is_body};
 
 use mx_event::{Event, Property};
-use mx_json::{Json, Path};
+use mx_json::{Json, OutOfMemory, Path};
+use std::alloc::Global;
 use std::marker::Model;
 
 /// The path at which a condition looks for a value.
@@ -44,6 +45,18 @@ impl PropertyPath {
             property,
             at_body,
         }
+    }
+
+    /// An equal path of its own.
+    pub fn copied(&self, alloc: Global) -> Result<PropertyPath, OutOfMemory>
+        ensures { IfOk result (λ path. path ≡ self.now) }
+    {
+        let path = self.path.copied(alloc)?;
+        Ok(PropertyPath {
+            path,
+            property: self.property,
+            at_body: self.at_body,
+        })
     }
 
     /// Whether it is `content.body`.

@@ -46,6 +46,15 @@ impl TextPattern {
         Ok(TextPattern { glob, spelled })
     }
 
+    /// An equal pattern of its own.
+    pub fn copied(&self, alloc: Global) -> Result<TextPattern, OutOfMemory>
+        ensures { IfOk result (λ pattern. pattern ≡ self.now) }
+    {
+        let glob = self.glob.copied(alloc)?;
+        let spelled = copied_text(alloc, &self.spelled)?;
+        Ok(TextPattern { glob, spelled })
+    }
+
     /// Whether it matches the whole of a text, which may be known to be ASCII.
     pub fn is_whole(
         &self,
@@ -70,6 +79,15 @@ impl TextPattern {
         ensures { IfOk result (λ is. IsTrue is ↔ WordMatches self.now (folded text.now)) }
     {
         self.glob.word_of_text(text, scratch, &mut Meter::new())
+    }
+}
+
+fn copied_text(alloc: Global, text: &Option<JsonText>) -> Result<Option<JsonText>, OutOfMemory>
+    ensures { IfOk result (λ copy. copy ≡ text.now) }
+{
+    match text {
+        Some(text) => Ok(Some(text.copied(alloc)?)),
+        None => Ok(None),
     }
 }
 

@@ -12,6 +12,7 @@ use crate::text_pattern::TextPattern;
 use mx_event::Event;
 use mx_glob::{Scratch, name_of_text};
 use mx_json::{Json, JsonText, Meter, OutOfMemory};
+use std::alloc::Global;
 
 /// What a condition wants of the facts, kind by kind, ready to be tried: its path is cut into
 /// segments, and its pattern is folded.
@@ -43,6 +44,32 @@ impl Wanted {
             }
             Wanted::ContainsDisplayName => names_owner(facts.event, facts.owner_name, scratch),
             Wanted::Unknown => Ok(false),
+        }
+    }
+
+    /// The same of its own: nothing is cut or folded again.
+    pub fn copied(&self, alloc: Global) -> Result<Wanted, OutOfMemory>
+        ensures { IfOk result (λ wanted. wanted ≡ self.now) }
+    {
+        match self {
+            Wanted::EventMatch(path, pattern) => {
+                let path = path.copied(alloc)?;
+                Ok(Wanted::EventMatch(path, pattern.copied(alloc)?))
+            }
+            Wanted::EventPropertyIs(path, value) => {
+                let path = path.copied(alloc)?;
+                Ok(Wanted::EventPropertyIs(path, value.copied(alloc)?))
+            }
+            Wanted::EventPropertyContains(path, value) => {
+                let path = path.copied(alloc)?;
+                Ok(Wanted::EventPropertyContains(path, value.copied(alloc)?))
+            }
+            Wanted::RoomMemberCount(asked) => Ok(Wanted::RoomMemberCount(*asked)),
+            Wanted::SenderNotificationPermission(key) => {
+                Ok(Wanted::SenderNotificationPermission(key.copied(alloc)?))
+            }
+            Wanted::ContainsDisplayName => Ok(Wanted::ContainsDisplayName),
+            Wanted::Unknown => Ok(Wanted::Unknown),
         }
     }
 

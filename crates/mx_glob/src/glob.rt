@@ -69,6 +69,22 @@ impl Glob {
         })
     }
 
+    /// An equal glob of its own. Its pattern isn't folded again, and no character of it is read.
+    ///
+    /// # Errors
+    ///
+    /// `OutOfMemory` alone.
+    pub fn copied(&self, alloc: Global) -> Result<Glob, OutOfMemory>
+        ensures { IfOk result (λ glob. glob ≡ self.now) }
+    {
+        let pattern = self.pattern.copied(alloc)?;
+        Ok(Glob {
+            pattern,
+            is_literal: self.is_literal,
+            is_name: self.is_name,
+        })
+    }
+
     /// Whether the glob matches the whole value. It takes no memory. With p characters of the
     /// folded pattern and v of the value it reads at most (p + 1)(v + 1) characters, and at most
     /// 2(v + 1) + p where the pattern has no `?`: each call of `Folded::at` on the value counts, and

@@ -1,11 +1,12 @@
-ghost use Rattle.std.specs.Prelude.{◌≡◌, ℕ, ◌+◌, ◌-◌, ◌^◌, ◌<◌, ◌≤◌, ◌↔◌, length, slice_get, Some, IfSome, IfNone, IsTrue, MatchOption};
+ghost use Rattle.std.specs.Prelude.{◌≡◌, ℕ, ◌+◌, ◌-◌, ◌^◌, ◌<◌, ◌≤◌, ◌↔◌, length, slice_get, Some, None, IfSome, IfNone, IsTrue, MatchOption};
 ghost use Rattle.std.specs.ControlFlow.{MatchControlFlow};
 ghost use Rattle.mx_json.specs.Folded.{RisesAtMost};
 ghost use Rattle.mx_glob.specs.Automaton.{AreFalls, IsExact, IsEdged, IsReached, IsNowhere, passed};
 ghost use Rattle.mx_glob.specs.Leads.{IsFirstFrom, IsNameAt};
 ghost use Rattle.mx_glob.specs.Words.{is_outside, character_before, HasWord};
 
-use crate::fall::{fallen_state, goes_on, make_falls};
+use crate::fall::{fallen_state, goes_on, make_once};
+use crate::skips::is_exact;
 use crate::word::is_outside;
 use mx_json::{Folded, Meter};
 use std::mem;
@@ -113,9 +114,16 @@ impl<'a> Wanted<'a> {
             × (IsTrue self.now.begins → IsTrue (is_outside reached.before))
             × (IsTrue self.now.ends → IsTrue (is_outside here))) }
     {
-        reached.size == self.segment.len()
-            && (!self.ends || is_outside(here))
-            && (!self.begins || is_outside(reached.before))
+        reached.size == self.segment.len() && self.is_beside(reached, here)
+    }
+
+    /// Whether what has to stand beside the segment does, where it stands whole.
+    fn is_beside(&self, reached: Reached, here: Option<char>) -> bool
+        ensures { IsTrue result
+            ↔ ((IsTrue self.now.begins → IsTrue (is_outside reached.before))
+            × (IsTrue self.now.ends → IsTrue (is_outside here))) }
+    {
+        (!self.ends || is_outside(here)) && (!self.begins || is_outside(reached.before))
     }
 
     /// Takes the next character of the value, where the segment goes on with it.
@@ -229,9 +237,85 @@ impl<'a> Wanted<'a> {
         self.segment.get(size - next).copied()
     }
 
+    /// Passes the next character of the value; `None` where the segment stands whole before that,
+    /// with what has to stand beside it.
+    fn pass(
+        &self,
+        falls: &[usize],
+        value: &Folded,
+        reached: Reached,
+        from: usize,
+        here: char,
+    ) -> Option<Reached>
+        requires room { length self.now.segment.now ≤ length falls.now }
+        requires made { AreFalls self.now.segment.now falls.now (length self.now.segment.now) }
+        requires reached { IsReached
+            value.now
+            self.now.segment.now
+            self.now.begins
+            self.now.ends
+            from
+            reached.place
+            reached.size
+            reached.before }
+        requires known { slice_get value.now reached.place ≡ Some here }
+        requires fits { length value.now < 2 ^ 61 }
+        ensures next { IfSome result
+            (λ next. (next.place ≡ reached.place + 1)
+            × IsReached
+            value.now
+            self.now.segment.now
+            self.now.begins
+            self.now.ends
+            from
+            next.place
+            next.size
+            next.before) }
+        ensures served { IfNone result
+            ((reached.size ≡ length self.now.segment.now)
+            × (IsTrue self.now.begins → IsTrue (is_outside reached.before))
+            × (IsTrue self.now.ends → IsTrue (is_outside (Some here)))) }
+    {
+        if reached.size < self.segment.len() {
+            return match self.take(value, reached, from, Some(here)) {
+                Some(taken) => Some(taken),
+                None => Some(self.fall(falls, value, reached, from, here)),
+            };
+        }
+        if self.is_beside(reached, Some(here)) {
+            return None;
+        }
+        Some(self.fall(falls, value, reached, from, here))
+    }
+
+    /// The first place that serves, if any, where the value is at its end.
+    fn at_end(&self, value: &Folded, reached: Reached, from: usize) -> Option<usize>
+        requires reached { IsReached
+            value.now
+            self.now.segment.now
+            self.now.begins
+            self.now.ends
+            from
+            reached.place
+            reached.size
+            reached.before }
+        requires end { slice_get value.now reached.place ≡ None }
+        ensures first { IsFirstFrom
+            (IsEdged value.now self.now.segment.now self.now.begins self.now.ends)
+            from
+            result }
+        ensures last { reached.place
+            ≤ from + passed (length self.now.segment.now) (length value.now) from result }
+    {
+        if self.is_served(reached, None) {
+            return Some(reached.place - reached.size);
+        }
+        None
+    }
+
     /// Goes on through the value as long as something of the segment stands, up to the first place
-    /// that serves, if any. It is kept apart from its caller, so that all that its loop needs stays
-    /// in registers.
+    /// that serves, if any, and gives the meter back. It is kept apart from its caller, and the meter
+    /// is its own, so that all that its loop needs stays in registers.
     #[inline(never)]
     fn follow(
         &self,
@@ -239,8 +323,8 @@ impl<'a> Wanted<'a> {
         value: &Folded,
         reached: Reached,
         from: usize,
-        meter: &mut Meter,
-    ) -> ControlFlow<Option<usize>, Reached>
+        mut meter: Meter,
+    ) -> (ControlFlow<Option<usize>, Reached>, Meter)
         requires room { length self.now.segment.now ≤ length falls.now }
         requires made { AreFalls self.now.segment.now falls.now (length self.now.segment.now) }
         requires reached { IsReached
@@ -253,7 +337,7 @@ impl<'a> Wanted<'a> {
             reached.size
             reached.before }
         requires fits { length value.now < 2 ^ 61 }
-        ensures followed { MatchControlFlow result
+        ensures followed { MatchControlFlow result.0
             (λ lost. (reached.place ≤ lost.place)
             × IsReached
             value.now
@@ -268,101 +352,23 @@ impl<'a> Wanted<'a> {
             (IsEdged value.now self.now.segment.now self.now.begins self.now.ends)
             from
             found) }
-        ensures never_falls { meter.old ≤ meter.new }
-        ensures reads { MatchControlFlow result
-            (λ lost. meter.new + reached.place ≤ meter.old + lost.place)
-            (λ found. meter.new + (reached.place - from)
-            ≤ meter.old + passed (length self.now.segment.now) (length value.now) from found + 1) }
-    {
-        let mut counted = mem::replace(meter, Meter::new());
-        let followed = self.follow_counted(falls, value, reached, from, &mut counted);
-        *meter = counted;
-        followed
-    }
-
-    /// The same, with a meter of its own.
-    fn follow_counted(
-        &self,
-        falls: &[usize],
-        value: &Folded,
-        reached: Reached,
-        from: usize,
-        meter: &mut Meter,
-    ) -> ControlFlow<Option<usize>, Reached>
-        requires room { length self.now.segment.now ≤ length falls.now }
-        requires made { AreFalls self.now.segment.now falls.now (length self.now.segment.now) }
-        requires reached { IsReached
-            value.now
-            self.now.segment.now
-            self.now.begins
-            self.now.ends
-            from
-            reached.place
-            reached.size
-            reached.before }
-        requires fits { length value.now < 2 ^ 61 }
-        ensures followed { MatchControlFlow result
-            (λ lost. (reached.place ≤ lost.place)
-            × IsReached
-            value.now
-            self.now.segment.now
-            self.now.begins
-            self.now.ends
-            from
-            lost.place
-            lost.size
-            lost.before)
-            (λ found. IsFirstFrom
-            (IsEdged value.now self.now.segment.now self.now.begins self.now.ends)
-            from
-            found) }
-        ensures never_falls { meter.old ≤ meter.new }
-        ensures reads { MatchControlFlow result
-            (λ lost. meter.new + reached.place ≤ meter.old + lost.place)
-            (λ found. meter.new + (reached.place - from)
-            ≤ meter.old + passed (length self.now.segment.now) (length value.now) from found + 1) }
+        ensures never_falls { meter ≤ result.1 }
+        ensures reads { MatchControlFlow result.0
+            (λ lost. result.1 + reached.place ≤ meter + lost.place)
+            (λ found. result.1 + (reached.place - from)
+            ≤ meter + passed (length self.now.segment.now) (length value.now) from found + 1) }
     {
         let mut now = reached;
         while now.size > 0 {
-            let here = value.at(now.place, meter);
-            if let Some(taken) = self.take(value, now, from, here) {
-                now = taken;
-                continue;
-            }
-            if self.is_served(now, here) {
-                return ControlFlow::Break(Some(now.place - now.size));
-            }
-            let Some(here) = here else {
-                return ControlFlow::Break(None);
+            let Some(here) = value.at(now.place, &mut meter) else {
+                return (ControlFlow::Break(self.at_end(value, now, from)), meter);
             };
-            now = self.fall(falls, value, now, from, here);
+            match self.pass(falls, value, now, from, here) {
+                Some(next) => now = next,
+                None => return (ControlFlow::Break(Some(now.place - now.size)), meter),
+            }
         }
-        ControlFlow::Continue(now)
-    }
-}
-
-/// Whether a segment has no `?`.
-fn is_exact(segment: &[char]) -> bool
-    ensures { IsTrue result ↔ IsExact segment.now }
-{
-    for character in segment {
-        if *character == '?' {
-            return false;
-        }
-    }
-    true
-}
-
-/// Makes the table of falls, unless it is made.
-fn make_once(segment: &[char], falls: &mut [usize], is_made: bool)
-    requires some { 0 < length segment.now }
-    requires room { length segment.now ≤ length falls.old }
-    requires made { IsTrue is_made → AreFalls segment.now falls.old (length segment.now) }
-    ensures falls { AreFalls segment.now falls.new (length segment.now) }
-    ensures same_room { length falls.new ≡ length falls.old }
-{
-    if !is_made {
-        make_falls(segment, falls);
+        (ControlFlow::Continue(now), meter)
     }
 }
 
@@ -378,6 +384,7 @@ pub(crate) fn find_onward(
 ) -> Option<usize>
     requires room { length wanted.now.segment.now ≤ length falls.old }
     requires in_text { from ≤ length value.now }
+    requires fits { length value.now < 2 ^ 61 }
     requires known { IsTrue wanted.now.begins → before ≡ character_before value.now from }
     ensures first { IsFirstFrom
         (IsEdged value.now wanted.now.segment.now wanted.now.begins wanted.now.ends)
@@ -389,7 +396,6 @@ pub(crate) fn find_onward(
         meter.new }
     ensures same_room { length falls.new ≡ length falls.old }
 {
-    let _length = value.len();
     let mut is_made = false;
     let mut reached = Reached {
         place: from,
@@ -414,7 +420,10 @@ pub(crate) fn find_onward(
         make_once(wanted.segment, falls, is_made);
         is_made = true;
         let fallen = wanted.fall(falls, value, entered, from, here);
-        match wanted.follow(falls, value, fallen, from, meter) {
+        let counted = mem::replace(meter, Meter::new());
+        let (followed, counted) = wanted.follow(falls, value, fallen, from, counted);
+        *meter = counted;
+        match followed {
             ControlFlow::Break(found) => return found,
             ControlFlow::Continue(lost) => reached = lost,
         }
@@ -433,6 +442,7 @@ pub(crate) fn word_of_name(
 ) -> bool
     requires room { length name.now ≤ length falls.old }
     requires in_text { place ≤ length value.now }
+    requires fits { length value.now < 2 ^ 61 }
     requires first_known { slice_get name.now 0 ≡ Some first }
     requires before { character_before value.now place ≡ Some first }
     requires none { (j : ℕ) → j < place → IsNameAt value.now name.now j → ⊥ }

@@ -1,4 +1,5 @@
-ghost use Rattle.std.specs.Prelude.{◌≡◌, ◌-◌, ◌%◌, ◌<◌, ◌==◌, false, length, replicate, slice_get, IsTrue, IfSome};
+ghost use Rattle.std.specs.Prelude.{◌≡◌, ◌-◌, ◌%◌, ◌<◌, ◌==◌, ◌↔◌, false, length, replicate, slice_get, IsTrue, IfSome};
+ghost use Rattle.mx_glob.specs.Automaton.{IsExact};
 ghost use Rattle.mx_glob.specs.Glob.{star, question};
 ghost use Rattle.mx_glob.specs.Search.{AreSkips, IsLiteral};
 
@@ -22,6 +23,18 @@ pub(crate) fn has_some(pattern: &Folded) -> bool
     ensures { IsTrue result → 0 < length pattern.now }
 {
     !pattern.is_empty()
+}
+
+/// Whether a segment has no `?`.
+pub(crate) fn is_exact(segment: &[char]) -> bool
+    ensures { IsTrue result ↔ IsExact segment.now }
+{
+    for character in segment {
+        if *character == '?' {
+            return false;
+        }
+    }
+    true
 }
 
 /// Whether a character of a pattern is itself.

@@ -71,6 +71,19 @@ impl Folded {
         Ok(())
     }
 
+    /// An equal folded text of its own. No character is read, so none is counted.
+    ///
+    /// # Errors
+    ///
+    /// `OutOfMemory` alone.
+    pub fn copied(&self, alloc: Global) -> Result<Folded, OutOfMemory>
+        ensures { IfOk result (λ f. f ≡ self.now) }
+    {
+        let mut characters = Vec::new(alloc);
+        characters.extend_from_slice(self.characters.as_slice())?;
+        Ok(Folded { characters })
+    }
+
     /// How many characters the folded text has.
     #[inline]
     pub fn len(&self) -> usize

@@ -51,6 +51,21 @@ impl Path {
     {
         self.segments.as_slice()
     }
+
+    /// An equal path of its own.
+    ///
+    /// # Errors
+    ///
+    /// `OutOfMemory` where the allocator has none.
+    pub fn copied(&self, alloc: Global) -> Result<Path, OutOfMemory>
+        ensures { IfOk result (λ path. path ≡ self.now) }
+    {
+        let mut segments = Items::new(alloc);
+        for segment in self.segments.as_slice() {
+            segments.push(segment.copied(alloc)?)?;
+        }
+        Ok(Path { segments })
+    }
 }
 
 impl Json {

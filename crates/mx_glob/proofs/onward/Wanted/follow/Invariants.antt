@@ -1,7 +1,7 @@
 use Rattle.std.proofs.Common.{◌-◌, ◌≤◌, length}
 use Rattle.mx_json.specs.Folded.{RisesAtMost}
 use Rattle.mx_glob.specs.Automaton.{IsReached}
-use Rattle.mx_glob.proofs.onward.Wanted.follow_counted.Given as goal
+use Rattle.mx_glob.proofs.onward.Wanted.follow.Given as goal
 
 abbrev pub invariant-loop-now : goal.invariant-loop-now
 invariant-loop-now l = record {
