@@ -1,5 +1,8 @@
+ghost use Rattle.std.specs.Prelude.{◌≡◌, IfOk};
+
 use crate::kind::Kind;
-use mx_json::{JsonList, JsonText};
+use mx_json::{JsonList, JsonText, OutOfMemory};
+use std::alloc::Global;
 
 /// An edit of a user's push rules (Client-Server API v1.11, "Push rules: API"). A field that was
 /// absent is `None`.
@@ -47,6 +50,77 @@ pub enum Edit {
         /// What it does from now on.
         actions: JsonList,
     },
+}
+
+impl Edit {
+    /// An equal edit of its own.
+    ///
+    /// # Errors
+    ///
+    /// `OutOfMemory` where the allocator has none.
+    pub fn copied(&self, alloc: Global) -> Result<Edit, OutOfMemory>
+        ensures { IfOk result (λ edit. edit ≡ self.now) }
+    {
+        match self {
+            Edit::Put {
+                kind,
+                rule_id,
+                pattern,
+                conditions,
+                actions,
+                before,
+                after,
+            } => Ok(Edit::Put {
+                kind: *kind,
+                rule_id: rule_id.copied(alloc)?,
+                pattern: copied_text(alloc, pattern)?,
+                conditions: copied_list(alloc, conditions)?,
+                actions: actions.copied(alloc)?,
+                before: copied_text(alloc, before)?,
+                after: copied_text(alloc, after)?,
+            }),
+            Edit::Delete { kind, rule_id } => Ok(Edit::Delete {
+                kind: *kind,
+                rule_id: rule_id.copied(alloc)?,
+            }),
+            Edit::Enable {
+                kind,
+                rule_id,
+                enabled,
+            } => Ok(Edit::Enable {
+                kind: *kind,
+                rule_id: rule_id.copied(alloc)?,
+                enabled: *enabled,
+            }),
+            Edit::SetActions {
+                kind,
+                rule_id,
+                actions,
+            } => Ok(Edit::SetActions {
+                kind: *kind,
+                rule_id: rule_id.copied(alloc)?,
+                actions: actions.copied(alloc)?,
+            }),
+        }
+    }
+}
+
+fn copied_text(alloc: Global, text: &Option<JsonText>) -> Result<Option<JsonText>, OutOfMemory>
+    ensures { IfOk result (λ copy. copy ≡ text.now) }
+{
+    match text {
+        Some(text) => Ok(Some(text.copied(alloc)?)),
+        None => Ok(None),
+    }
+}
+
+fn copied_list(alloc: Global, list: &Option<JsonList>) -> Result<Option<JsonList>, OutOfMemory>
+    ensures { IfOk result (λ copy. copy ≡ list.now) }
+{
+    match list {
+        Some(list) => Ok(Some(list.copied(alloc)?)),
+        None => Ok(None),
+    }
 }
 
 /// A part of an edit that can be wrong, in the order in which the parts are tested.

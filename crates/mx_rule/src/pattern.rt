@@ -65,7 +65,7 @@ impl Pattern {
         self.glob.word_of_text(body, scratch, &mut Meter::new())
     }
 
-    /// An equal pattern of its own.
+    /// An equal pattern of its own. It isn't folded again.
     ///
     /// # Errors
     ///
@@ -73,10 +73,8 @@ impl Pattern {
     pub fn copied(&self, alloc: Global) -> Result<Pattern, OutOfMemory>
         ensures { IfOk result (λ pattern. pattern ≡ self.now) }
     {
-        match Pattern::read(alloc, self.text.as_str()) {
-            Ok(pattern) => Ok(pattern),
-            Err(GlobError::OutOfMemory) => Err(OutOfMemory),
-            Err(GlobError::PatternTooLong) => unreachable!(),
-        }
+        let glob = self.glob.copied(alloc)?;
+        let text = self.text.copied(alloc)?;
+        Ok(Pattern { text, glob })
     }
 }

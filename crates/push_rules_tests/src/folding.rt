@@ -10,9 +10,9 @@ fn folds_and_counts(rt: HostRuntime) {
     assert_eq!(rt; reads, 11);
 }
 
-/// The folded text, read to its end and once past it, and how many reads were counted.
+/// A copy of the folded text, read to its end and once past it, and how many reads were counted.
 fn read(rt: &impl Abort, alloc: Global, text: &str) -> (String, u64) {
-    let folded = Folded::of(alloc, text).expect(rt, "a folded text");
+    let folded = copied(rt, alloc, &folded(rt, alloc, text));
     let mut meter = Meter::new();
     let mut read = String::new(alloc);
     for k in 0..folded.len() + 1 {
@@ -23,6 +23,14 @@ fn read(rt: &impl Abort, alloc: Global, text: &str) -> (String, u64) {
     (read, meter.count())
 }
 
+fn folded(rt: &impl Abort, alloc: Global, text: &str) -> Folded {
+    Folded::of(alloc, text).expect(rt, "a folded text")
+}
+
+fn copied(rt: &impl Abort, alloc: Global, folded: &Folded) -> Folded {
+    folded.copied(alloc).expect(rt, "a copy")
+}
+
 // It shows how many characters there are, and none of them: a character is read by `at` alone.
 #[test]
 fn a_folded_text_is_shown_by_its_length(rt: HostRuntime) {
@@ -30,7 +38,7 @@ fn a_folded_text_is_shown_by_its_length(rt: HostRuntime) {
 }
 
 fn is_shown_as(rt: &impl Abort, alloc: Global, text: &str, wanted: &str) -> bool {
-    let folded = Folded::of(alloc, text).expect(rt, "a folded text");
+    let folded = folded(rt, alloc, text);
     format!(in alloc; "{folded:?}")
         .expect(rt, "a text")
         .as_str()

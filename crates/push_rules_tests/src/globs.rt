@@ -13,11 +13,12 @@ fn globs_answer_the_table(rt: HostRuntime) {
     }
 }
 
-/// What the case's pattern answers for its value, whole and as a word; none where it is too long.
+/// What a copy of the case's glob answers for its value, whole and as a word; none where the pattern
+/// is too long.
 fn answers(rt: &impl Abort, alloc: Global, case: &GlobCase) -> Option<(bool, bool)> {
     let value = folded(rt, alloc, written(rt, alloc, &case.value).as_str());
     match Glob::read(alloc, written(rt, alloc, &case.pattern).as_str()) {
-        Ok(glob) => Some(matches(rt, alloc, &glob, &value)),
+        Ok(glob) => Some(matches(rt, alloc, &copy(rt, alloc, &glob), &value)),
         Err(GlobError::PatternTooLong) => None,
         Err(GlobError::OutOfMemory) => rt.panic("no memory"),
     }
@@ -29,6 +30,10 @@ fn written(rt: &impl Abort, alloc: Global, text: &Text) -> String {
 
 fn folded(rt: &impl Abort, alloc: Global, text: &str) -> Folded {
     Folded::of(alloc, text).expect(rt, "a folded text")
+}
+
+fn copy(rt: &impl Abort, alloc: Global, glob: &Glob) -> Glob {
+    glob.copied(alloc).expect(rt, "a copy")
 }
 
 fn matches(rt: &impl Abort, alloc: Global, glob: &Glob, value: &Folded) -> (bool, bool) {

@@ -28,7 +28,7 @@ fn segments_of_a_text(rt: HostRuntime) {
         (r"a\", [r"a\"].as_slice()),
     ] {
         assert!(rt;
-            has_segments(&path(&rt, rt.alloc(), text), wanted),
+            has_segments(&copy(&rt, rt.alloc(), &path(&rt, rt.alloc(), text)), wanted),
             "at {text}"
         );
     }
@@ -36,6 +36,10 @@ fn segments_of_a_text(rt: HostRuntime) {
 
 fn path(rt: &impl Abort, alloc: Global, text: &str) -> Path {
     Path::read(alloc, text).expect(rt, text)
+}
+
+fn copy(rt: &impl Abort, alloc: Global, path: &Path) -> Path {
+    path.copied(alloc).expect(rt, "a copy")
 }
 
 fn has_segments(path: &Path, wanted: &[&str]) -> bool {

@@ -6,7 +6,7 @@ use mx_cond::{Condition, Facts, PowerTable};
 use mx_event::Event;
 use mx_glob::Scratch;
 use mx_json::JsonText;
-use mx_rule::{Actions, Criterion, Kind, Pattern, Rule, Verdict};
+use mx_rule::{Actions, Criterion, Edit, Kind, Pattern, Rule, Verdict};
 use mx_vectors::{ActionsCase, actions_cases};
 use sqlite_items::Items;
 use std::alloc::Global;
@@ -148,4 +148,51 @@ fn is_met_with<'a>(
     criterion
         .is_met(alloc, id, &facts, &mut scratch)
         .expect(rt, "an answer")
+}
+
+#[test]
+fn a_copied_edit_says_the_same(rt: HostRuntime) {
+    assert!(rt; is_the_put(&copied_edit(&rt, rt.alloc(), &put(&rt, rt.alloc()))));
+}
+
+/// A put of a content rule, in which one field that may be absent is.
+fn put(rt: &impl Abort, alloc: Global) -> Edit {
+    Edit::Put {
+        kind: Kind::Content,
+        rule_id: text(rt, alloc, "dinner"),
+        pattern: Some(text(rt, alloc, "cake")),
+        conditions: Some(list(rt, alloc, "[]")),
+        actions: list(rt, alloc, r#"["notify",{"set_tweak":"highlight"}]"#),
+        before: None,
+        after: Some(text(rt, alloc, "lunch")),
+    }
+}
+
+fn text(rt: &impl Abort, alloc: Global, text: &str) -> JsonText {
+    JsonText::read(alloc, text).expect(rt, text)
+}
+
+fn copied_edit(rt: &impl Abort, alloc: Global, edit: &Edit) -> Edit {
+    edit.copied(alloc).expect(rt, "a copy")
+}
+
+fn is_the_put(edit: &Edit) -> bool {
+    match edit {
+        Edit::Put {
+            kind: Kind::Content,
+            rule_id,
+            pattern: Some(pattern),
+            conditions: Some(conditions),
+            actions,
+            before: None,
+            after: Some(after),
+        } => {
+            rule_id.as_str() == "dinner"
+                && pattern.as_str() == "cake"
+                && conditions.is_empty()
+                && actions.len() == 2
+                && after.as_str() == "lunch"
+        }
+        _ => false,
+    }
 }
