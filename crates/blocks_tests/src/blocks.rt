@@ -29,8 +29,8 @@ fn push(rt: &impl Abort, alloc: Global, rows: &mut Blocks, thread: &ThreadKey, r
 }
 
 /// So many rows of the main thread, the first at position `gap` and each `gap` above the one
-/// before. Row k, from 0, is highlighted where k % 8 and k / 8 % 8 are equal: so byte j of a block's
-/// highlights has bit j % 8 alone.
+/// before. Row k, from 0, is highlighted where k % 8 and k / 8 % 8 are equal: so byte j of a
+/// block's highlights has bit j % 8 alone.
 fn filled(rt: &impl Abort, alloc: Global, count: u64, gap: u64) -> Blocks {
     let mut rows = Blocks::empty(alloc).expect(rt, "memory");
     let mut position: u64 = 0;

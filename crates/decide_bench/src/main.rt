@@ -1,5 +1,5 @@
-//! The work that `bench/decide` measures. Each line of the input is a kind of work, a number of users
-//! and a number of rounds; what is printed is what came of the last round:
+//! The work that `bench/decide` measures. Each line of the input is a kind of work, a number of
+//! users and a number of rounds; what is printed is what came of the last round:
 //!
 //! - from 0 on, a message of the table is judged for so many users with the predefined rules, in a
 //!   room in which twenty are;
@@ -34,7 +34,8 @@ struct Owner {
     rules: Ruleset,
 }
 
-/// How many verdicts notify, how many are highlighted, how many do neither, and how often there was none.
+/// How many verdicts notify, how many are highlighted, how many do neither,
+/// and how often there was none.
 #[derive(Clone, Copy)]
 struct Tally {
     notify: u32,

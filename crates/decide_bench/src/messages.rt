@@ -1,6 +1,6 @@
 /// The contents of the messages. Seven are the mix: a short one, one with a user's name, one with a
-/// user's localpart, a mention of the room, a notice, a reply that says whom it mentions, and a long
-/// one. The last is judged apart.
+/// user's localpart, a mention of the room, a notice, a reply that says whom it mentions, and a
+/// long one. The last is judged apart.
 #[rattlefmt::skip]
 pub const MESSAGES: [&str; 8] = [
     r#"{"body":"lunch is at noon, as ever","msgtype":"m.text"}"#,

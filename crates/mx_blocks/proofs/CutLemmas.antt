@@ -1,5 +1,6 @@
 -- A cut of every thread: what stays true from one thread to the next, and what is left at the end.
-use Rattle.std.proofs.Common.{◌≡◌, ℕ, ◌+◌, ◌<◌, ◌≤◌, min, nat_lt, true, [], length, count_by, get_or, Option, Some, None, refl, ap, subst, arith}
+use Rattle.std.proofs.Common.{◌≡◌, ℕ, ◌+◌, ◌<◌, ◌≤◌, min, nat_lt, true, [], length, count_by, get_or, Option, Some}
+use Rattle.std.proofs.Common.{None, refl, ap, subst, arith}
 use Rattle.std.proofs.lemmas.List.Sums.{sum_by-le}
 use Rattle.std.proofs.lemmas.Map.Entries.{place_from_lookup}
 use Rattle.std.proofs.lemmas.Option.{slice_get_within}
@@ -12,7 +13,8 @@ use Rattle.mx_rows.specs.declared.thread_key.ThreadKey.{ThreadKey}
 use Rattle.mx_blocks.specs.declared.thread_rows.ThreadRows.{ThreadRows}
 use Rattle.mx_rows.proofs.CutLemmas.{above-all, all_above_start, upto-none}
 use Rattle.mx_rows.proofs.EntryLemmas.{get_or_of_slice_get}
-use Rattle.mx_blocks.specs.Entries.{are_needed, AreDistinct, Entries, highlights_left_to_cut, hot_in, InOrder, reserved_in, rows_in, rows_left_to_cut, start_at, thread_rows, threads_left_to_cut}
+use Rattle.mx_blocks.specs.Entries.{are_needed, AreDistinct, Entries, highlights_left_to_cut, hot_in, InOrder}
+use Rattle.mx_blocks.specs.Entries.{reserved_in, rows_in, rows_left_to_cut, start_at, thread_rows, threads_left_to_cut}
 use Rattle.mx_rows.specs.Rows.{above, largest_count, upto}
 use Rattle.mx_rows.specs.Threads.{same_thread}
 

@@ -1,5 +1,7 @@
 -- Threads in the order of their first rows: look-ups, and what a move leaves.
-use Rattle.std.proofs.Common.{◌≡◌, ℕ, zero, suc, ◌+◌, ◌<◌, Bool, true, false, cond, not, ◌||◌, List, [], ◌∷◌, ◌++◌, length, map, sum_by, get_or, insert, remove, position, slice_get, Option, Some, option_map, refl, sym, ap, ◌∙◌, arith}
+use Rattle.std.proofs.Common.{◌≡◌, ℕ, zero, suc, ◌+◌, ◌<◌, Bool, true, false, cond, not, ◌||◌, List, [], ◌∷◌, ◌++◌}
+use Rattle.std.proofs.Common.{length, map, sum_by, get_or, insert, remove, position, slice_get, Option, Some}
+use Rattle.std.proofs.Common.{option_map, refl, sym, ap, ◌∙◌, arith}
 use Rattle.std.proofs.lemmas.Bool.{cond_both, false≢true}
 use Rattle.std.proofs.Math.ListN.{get_or-map}
 use Rattle.std.proofs.lemmas.List.{length-map}
@@ -17,7 +19,8 @@ use Rattle.indexmap.specs.IndexMap.{set_value_at}
 use Rattle.mx_rows.specs.declared.row.Row.{Row}
 use Rattle.mx_rows.specs.declared.thread_key.ThreadKey.{ThreadKey}
 use Rattle.mx_blocks.specs.declared.thread_rows.ThreadRows.{ThreadRows}
-use Rattle.mx_rows.proofs.EntryLemmas.{cond_same, get_or_of_slice_get, IsNonDecreasingBy-remove, no_rows, some_at, some_same}
+use Rattle.mx_rows.proofs.EntryLemmas.{cond_same, get_or_of_slice_get, IsNonDecreasingBy-remove, no_rows, some_at}
+use Rattle.mx_rows.proofs.EntryLemmas.{some_same}
 use Rattle.mx_blocks.specs.Block.{packed_rows}
 use Rattle.mx_blocks.specs.Entries.{hot_in, Entries, InOrder, is_spent, IsPlace, rows_in, start_at, thread_rows}
 use Rattle.mx_rows.specs.Rows.{has_rows}

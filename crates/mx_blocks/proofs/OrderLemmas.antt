@@ -1,6 +1,9 @@
 -- What the threads of `Blocks` are to a caller of `Rows`: the lists by thread, the order, all rows together.
-use Rattle.std.proofs.Common.{◌≡◌, ℕ, zero, suc, ◌+◌, ◌<◌, ◌≤◌, nat_le, nat_lt, Bool, true, false, cond, List, [], ◌∷◌, ◌++◌, length, map, filter, flat_map, count_by, get_or, slice_get, Option, Some, None, option_map, refl, sym, ap, ◌∙◌, arith}
-use Rattle.std.proofs.lemmas.Bool.{and_parts, and_from, cond-true, cond-false, cond_both, false≢true, le-leb, leb-true, ltb-true}
+use Rattle.std.proofs.Common.{◌≡◌, ℕ, zero, suc, ◌+◌, ◌<◌, ◌≤◌, nat_le, nat_lt, Bool, true, false, cond, List, [], ◌∷◌}
+use Rattle.std.proofs.Common.{◌++◌, length, map, filter, flat_map, count_by, get_or, slice_get, Option, Some, None}
+use Rattle.std.proofs.Common.{option_map, refl, sym, ap, ◌∙◌, arith}
+use Rattle.std.proofs.lemmas.Bool.{and_parts, and_from, cond-true, cond-false, cond_both, false≢true, le-leb, leb-true}
+use Rattle.std.proofs.lemmas.Bool.{ltb-true}
 use Rattle.std.proofs.lemmas.List.{length-append}
 use Rattle.std.proofs.lemmas.List.Elements.{filter-append}
 use Rattle.std.proofs.lemmas.List.Sums.{length-filter, sum_by-append, sum_by-cons}
@@ -13,7 +16,8 @@ use Rattle.std.specs.Option.{option_map_or}
 use Rattle.mx_rows.specs.declared.row.Row.{Row}
 use Rattle.mx_rows.specs.declared.thread_key.ThreadKey.{ThreadKey}
 use Rattle.mx_blocks.specs.declared.thread_rows.ThreadRows.{ThreadRows}
-use Rattle.mx_blocks.specs.Entries.{threads_left_to_cut, Entries, highlights_left_to_cut, InOrder, rows_in, rows_left_to_cut, start_at, thread_rows}
+use Rattle.mx_blocks.specs.Entries.{threads_left_to_cut, Entries, highlights_left_to_cut, InOrder, rows_in}
+use Rattle.mx_blocks.specs.Entries.{rows_left_to_cut, start_at, thread_rows}
 use Rattle.mx_rows.specs.Rows.{are_in_order, are_in_range, counts_in, has_rows, never_falls, start_of, upto, with_rows}
 use Rattle.mx_rows.specs.Threads.{same_thread}
 use Rattle.mx_blocks.proofs.EntryLemmas.{found_at}

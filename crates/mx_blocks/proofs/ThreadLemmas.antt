@@ -1,6 +1,9 @@
 -- The rows of a thread: what a cut does to its blocks, one after another, and what packing leaves as it is.
-use Rattle.std.proofs.Common.{◌≡◌, ℕ, ◌+◌, ◌<◌, ◌≤◌, nat_lt, nat_le, true, false, cond, List, [], ◌∷◌, ◌++◌, length, drop, count_by, length-append, append_assoc, append-nil, refl, sym, ap, ◌∙◌, ⊎_elim, arith}
-use Rattle.std.proofs.lemmas.Bool.{and_parts, and_from, cond-true, cond-false, cond_both, cases_lt, le-ltb, lt-ltb, ltb-true, leb-false, false≢true}
+use Rattle.std.proofs.Common.{◌≡◌, ℕ, ◌+◌, ◌<◌, ◌≤◌, nat_lt, nat_le, true, false, cond, List, [], ◌∷◌, ◌++◌, length}
+use Rattle.std.proofs.Common.{drop, count_by, length-append, append_assoc, append-nil, refl, sym, ap, ◌∙◌, ⊎_elim}
+use Rattle.std.proofs.Common.{arith}
+use Rattle.std.proofs.lemmas.Bool.{and_parts, and_from, cond-true, cond-false, cond_both, cases_lt, le-ltb, lt-ltb}
+use Rattle.std.proofs.lemmas.Bool.{ltb-true, leb-false, false≢true}
 use Rattle.std.proofs.lemmas.List.Elements.{filter-append}
 use Rattle.std.proofs.lemmas.List.Folds.{list_all-append}
 use Rattle.std.proofs.lemmas.List.Sums.{count_by-le-length, length-filter, sum_by-append, sum_by-cons}
@@ -12,7 +15,8 @@ use Rattle.mx_rows.proofs.CutLemmas.{above-all, upto-none}
 use Rattle.mx_blocks.specs.Block.{block_rows, Kept, mark_at, packed_positions, packed_rows, rows_from}
 use Rattle.mx_blocks.specs.Differences.{differences, positions, total}
 use Rattle.mx_blocks.specs.Kept.{are_alive, first_ends_upto, last_of, rows_of_parts}
-use Rattle.mx_blocks.proofs.BlockLemmas.{above-none, counts-split, all-rows_from, drop-positions, positions_upto, upto-all}
+use Rattle.mx_blocks.proofs.BlockLemmas.{above-none, counts-split, all-rows_from, drop-positions, positions_upto}
+use Rattle.mx_blocks.proofs.BlockLemmas.{upto-all}
 
 -- ---- rows that rise, in two parts
 

@@ -1,5 +1,6 @@
 -- The threads that are kept, with their rows, in the order of these; for private clauses.
-use Rattle.std.specs.Prelude.{ℕ, ◌<◌, ◌≤◌, nat_le, Bool, false, not, ◌||◌, List, [], length, count_by, remove, slice_index_or, sum_by}
+use Rattle.std.specs.Prelude.{ℕ, ◌<◌, ◌≤◌, nat_le, Bool, false, not, ◌||◌, List, [], length, count_by, remove}
+use Rattle.std.specs.Prelude.{slice_index_or, sum_by}
 use Rattle.std.specs.List.{IsDistinct, list_all}
 use Rattle.std.specs.List.Sorted.{IsNonDecreasingBy}
 use Rattle.std.specs.Map.{keys_of, lookup}

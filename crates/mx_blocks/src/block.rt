@@ -75,8 +75,8 @@ impl Block {
         self.first
     }
 
-    /// The 255 differences between the positions of neighbours. A difference is written in groups of
-    /// seven bits, the lowest group first, one group a byte, in the fewest bytes; each byte of a
+    /// The 255 differences between the positions of neighbours. A difference is written in groups
+    /// of seven bits, the lowest group first, one group a byte, in the fewest bytes; each byte of a
     /// difference but its last has its top bit set.
     pub fn differences(&self) -> &[u8]
         ensures bytes { result.now ≡ self.now.packed }

@@ -21,16 +21,17 @@ use mx_json::OutOfMemory;
 use mx_rows::{Counts, Row, Rows, Sizes, ThreadKey};
 use std::alloc::Global;
 
-/// Rows of which those that are long unread are packed: for each thread blocks of 256 rows, and then
-/// hot rows.
+/// Rows of which those that are long unread are packed: for each thread blocks of 256 rows, and
+/// then hot rows.
 ///
-/// A thread is found by its key in one look-up, and the threads are kept in the order of their first
-/// rows. So `push` is one look-up, whatever the number of threads, `counts` reads sums that are kept,
-/// and `thread_at` reads one place. A `cut` lets the blocks go that end at or below its position,
-/// opens the next one where that begins there, walks over the hot rows, and then moves the thread
-/// past those that now start before it, or shifts those after it where nothing is left of it. A
-/// `cut_all` does so for each thread that starts at or below its position, from the last of them on,
-/// so that threads that all go cost no shift. A thread without rows and without capacity isn't kept.
+/// A thread is found by its key in one look-up, and the threads are kept in the order of their
+/// first rows. So `push` is one look-up, whatever the number of threads, `counts` reads sums that
+/// are kept, and `thread_at` reads one place. A `cut` lets the blocks go that end at or below its
+/// position, opens the next one where that begins there, walks over the hot rows, and then moves
+/// the thread past those that now start before it, or shifts those after it where nothing is left
+/// of it. A `cut_all` does so for each thread that starts at or below its position, from the last
+/// of them on, so that threads that all go cost no shift. A thread without rows and without
+/// capacity isn't kept.
 #[derive(Drop)]
 pub struct Blocks {
     threads: Threads,
@@ -69,8 +70,10 @@ impl Blocks {
 }
 
 impl Rows for Blocks {
-    ghost use Rattle.mx_blocks.specs.Lists.{has_capacity_of, hot_of, list_of, opened_in, threads_of};
-    ghost use Rattle.mx_blocks.specs.EntriesLaws.{hot_last-rows_in, is_rising-rows_in, kept-entries};
+    ghost use Rattle.mx_blocks.specs.Lists.{has_capacity_of, hot_of, list_of, opened_in};
+    ghost use Rattle.mx_blocks.specs.Lists.{threads_of};
+    ghost use Rattle.mx_blocks.specs.EntriesLaws.{hot_last-rows_in, is_rising-rows_in};
+    ghost use Rattle.mx_blocks.specs.EntriesLaws.{kept-entries};
 
     ghost list = { list_of };
 

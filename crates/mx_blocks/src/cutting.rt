@@ -1,8 +1,11 @@
-ghost use Rattle.std.specs.Prelude.{◌≡◌, true, ℕ, ◌+◌, ◌<◌, ◌≤◌, min, nat_le, if◌then◌else◌, length, slice_get, slice_index_or, Some, IfSome, IfNone};
+ghost use Rattle.std.specs.Prelude.{◌≡◌, true, ℕ, ◌+◌, ◌<◌, ◌≤◌, min, nat_le, if◌then◌else◌};
+ghost use Rattle.std.specs.Prelude.{length, slice_get, slice_index_or, Some, IfSome, IfNone};
 ghost use Rattle.indexmap.specs.IndexMap.{set_value_at};
 ghost use Rattle.mx_rows.specs.declared.thread_key.ThreadKey.{ThreadKey};
 ghost use Rattle.mx_blocks.specs.declared.thread_rows.ThreadRows.{ThreadRows};
-ghost use Rattle.mx_blocks.specs.Entries.{are_needed, AreDistinct, Entry, highlights_left_to_cut, hot_in, InOrder, reserved_in, rows_in, rows_left_to_cut, start_at, thread_rows, threads_left_to_cut};
+ghost use Rattle.mx_blocks.specs.Entries.{are_needed, AreDistinct, Entry, highlights_left_to_cut};
+ghost use Rattle.mx_blocks.specs.Entries.{hot_in, InOrder, reserved_in, rows_in, rows_left_to_cut};
+ghost use Rattle.mx_blocks.specs.Entries.{start_at, thread_rows, threads_left_to_cut};
 ghost use Rattle.mx_rows.specs.Rows.{above, counts_in, largest_count, upto};
 ghost use Rattle.mx_rows.specs.Threads.{same_thread};
 
@@ -55,7 +58,8 @@ pub fn cut_at(threads: &mut Threads, index: usize, position: u64, opened: &mut u
         → result ≡ counts_in (upto position (thread_rows e.1)) }
     ensures fewer_rows { rows_left_to_cut position threads.new.entries + result.notify
         ≡ rows_left_to_cut position threads.old.entries }
-    ensures fewer_highlights { highlights_left_to_cut position threads.new.entries + result.highlight
+    ensures fewer_highlights { highlights_left_to_cut position threads.new.entries
+        + result.highlight
         ≡ highlights_left_to_cut position threads.old.entries }
     ensures fewer_threads { (e : Entry) → slice_get threads.old.entries index ≡ Some e
         → threads_left_to_cut position threads.new.entries

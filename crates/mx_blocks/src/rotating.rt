@@ -1,9 +1,11 @@
-ghost use Rattle.std.specs.Prelude.{◌≡◌, ◌<◌, ◌≤◌, nat_le, true, if◌then◌else◌, length, drop, slice_get, Some, IfOk, IfSome, IfNone};
+ghost use Rattle.std.specs.Prelude.{◌≡◌, ◌<◌, ◌≤◌, nat_le, true, if◌then◌else◌, length, drop};
+ghost use Rattle.std.specs.Prelude.{slice_get, Some, IfOk, IfSome, IfNone};
 ghost use Rattle.std.specs.Result.{result_unwrap_or};
 ghost use Rattle.mx_rows.specs.declared.thread_key.ThreadKey.{ThreadKey};
 ghost use Rattle.mx_rows.specs.Rows.{upto};
 ghost use Rattle.mx_rows.specs.Threads.{same_thread};
-ghost use Rattle.mx_blocks.specs.Entries.{are_needed, AreDistinct, Entry, hot_in, InOrder, reserved_in, rows_in};
+ghost use Rattle.mx_blocks.specs.Entries.{are_needed, AreDistinct, Entry, hot_in, InOrder};
+ghost use Rattle.mx_blocks.specs.Entries.{reserved_in, rows_in};
 
 use crate::block::BLOCK_ROWS;
 use crate::threads::Threads;

@@ -1,7 +1,10 @@
-ghost use Rattle.std.specs.Prelude.{◌≡◌, ◌+◌, ◌-◌, ◌<◌, ◌≤◌, ◌^◌, not, nat_le, ◌||◌, true, false, if◌then◌else◌, [], ◌∷◌, ◌++◌, is_ok, List, All, IfOk, OnOk, OnErr, length, drop, take, vec_len, vec_capacity};
+ghost use Rattle.std.specs.Prelude.{◌≡◌, ◌+◌, ◌-◌, ◌<◌, ◌≤◌, ◌^◌, not, nat_le, ◌||◌, true, false};
+ghost use Rattle.std.specs.Prelude.{if◌then◌else◌, [], ◌∷◌, ◌++◌, is_ok, List, All, IfOk, OnOk};
+ghost use Rattle.std.specs.Prelude.{OnErr, length, drop, take, vec_len, vec_capacity};
 ghost use Rattle.std.specs.Result.{result_unwrap_or};
 ghost use Rattle.mx_rows.specs.declared.row.Row.{Row};
-ghost use Rattle.mx_rows.specs.Rows.{above, are_in_range, counts_in, has_rows, is_rising, start_of, upto};
+ghost use Rattle.mx_rows.specs.Rows.{above, are_in_range, counts_in, has_rows, is_rising, start_of};
+ghost use Rattle.mx_rows.specs.Rows.{upto};
 ghost use Rattle.mx_blocks.specs.Kept.{are_alive, rows_of_parts};
 
 use crate::block::{BLOCK_ROWS, Block};
@@ -12,7 +15,8 @@ use mx_rows::{Counts, Row, Sizes};
 use std::alloc::Global;
 use std::collections::VecDeque;
 
-/// The rows of one thread: blocks, and then hot rows; and whether capacity for one more is reserved.
+/// The rows of one thread: blocks, and then hot rows;
+/// and whether capacity for one more is reserved.
 #[derive(Drop)]
 pub struct ThreadRows {
     pub blocks: VecDeque<Block>,

@@ -1,8 +1,10 @@
-ghost use Rattle.std.specs.Prelude.{◌≡◌, ℕ, ◌<◌, ◌≤◌, nat_le, if◌then◌else◌, length, insert, remove, slice_get, slice_index_or, Some};
+ghost use Rattle.std.specs.Prelude.{◌≡◌, ℕ, ◌<◌, ◌≤◌, nat_le, if◌then◌else◌, length, insert};
+ghost use Rattle.std.specs.Prelude.{remove, slice_get, slice_index_or, Some};
 ghost use Rattle.std.specs.List.Sorted.{IsPartitionedBy};
 ghost use Rattle.mx_rows.specs.declared.thread_key.ThreadKey.{ThreadKey};
 ghost use Rattle.mx_blocks.specs.declared.thread_rows.ThreadRows.{ThreadRows};
-ghost use Rattle.mx_blocks.specs.Entries.{AreDistinct, Entry, hot_in, is_spent, IsPlace, reserved_in, rows_in, start_at};
+ghost use Rattle.mx_blocks.specs.Entries.{AreDistinct, Entry, hot_in, is_spent, IsPlace};
+ghost use Rattle.mx_blocks.specs.Entries.{reserved_in, rows_in, start_at};
 
 use crate::thread_rows::ThreadRows;
 use indexmap::IndexMap;

@@ -1,5 +1,7 @@
 -- An ASCII text is matched by a pattern that a text spells exactly where the two are equal, case apart.
-use Rattle.std.proofs.Common.{◌≡◌, ◌≢◌, ℕ, suc, ◌<◌, ◌==◌, Bool, true, false, if◌then◌else◌, nat_lt, length, Ok, Err, List, [], ◌∷◌, map, slice_index, EachIndex, IsAscii, inl, inr, ◌↔◌, sym, ◌∙◌, subst, arith}
+use Rattle.std.proofs.Common.{◌≡◌, ◌≢◌, ℕ, suc, ◌<◌, ◌==◌, Bool, true, false, if◌then◌else◌, nat_lt, length, Ok, Err}
+use Rattle.std.proofs.Common.{List, [], ◌∷◌, map, slice_index, EachIndex, IsAscii, inl, inr, ◌↔◌, sym, ◌∙◌, subst}
+use Rattle.std.proofs.Common.{arith}
 use Rattle.std.proofs.lemmas.Bool.Decides.{nat_tests}
 use Rattle.std.proofs.lemmas.Bool.{cases_lt}
 use Rattle.std.proofs.lemmas.List.{get_or_past}
@@ -15,7 +17,8 @@ use Rattle.mx_cond.specs.Pattern.{Spells}
 
 -- bytes that are ASCII, and no `*` and no `?`
 abbrev pub AreItself : List ℕ → Type 0
-AreItself text = EachIndex text (λ k. (slice_index text k < 128) × (slice_index text k ≢ star) × (slice_index text k ≢ question))
+AreItself text =
+    EachIndex text (λ k. (slice_index text k < 128) × (slice_index text k ≢ star) × (slice_index text k ≢ question))
 
 lowered_star : (c : ℕ) → c ≢ star → to_ascii_lowercase c == star ≡ false
 lowered_star c other = grind (arith, nat_tests)

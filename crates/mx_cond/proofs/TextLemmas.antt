@@ -1,5 +1,6 @@
 -- What a condition says of an event, where the text that it looks at is known.
-use Rattle.std.proofs.Common.{◌≡◌, ◌≢◌, ℕ, Bool, true, List, [], ◌∷◌, codes, Option, Some, None, option_and_then, unwrap_or, IfSome, IsAscii, IsSomeAnd, MatchBool, ◌↔◌, subst, sym}
+use Rattle.std.proofs.Common.{◌≡◌, ◌≢◌, ℕ, Bool, true, List, [], ◌∷◌, codes, Option, Some, None, option_and_then}
+use Rattle.std.proofs.Common.{unwrap_or, IfSome, IsAscii, IsSomeAnd, MatchBool, ◌↔◌, subst, sym}
 use Rattle.mx_json.specs.declared.value.Json.{Json}
 use Rattle.mx_json.specs.Folded.{folded}
 use Rattle.mx_json.specs.Json.{member, text_of}

@@ -1,4 +1,5 @@
--- The path of a message's body: the Client-Server API v1.11, "Conditions for push rules", event_match and contains_display_name.
+-- The path of a message's body: the Client-Server API v1.11, "Conditions for push rules",
+-- event_match and contains_display_name.
 use Rattle.std.specs.Prelude.{ℕ, Bool, false, ◌&&◌, List, [], ◌∷◌, codes}
 use Rattle.std.specs.Str.{bytes_eq}
 

@@ -1,5 +1,6 @@
 -- What makes a JSON value a condition, and what it wants: the Client-Server API v1.11, "Conditions for push rules".
-use Rattle.std.specs.Prelude.{ℕ, Bool, if◌then◌else◌, List, codes, Option, Some, None, is_some, option_and_then, option_map, Result, Ok, Err}
+use Rattle.std.specs.Prelude.{ℕ, Bool, if◌then◌else◌, List, codes, Option, Some, None, is_some, option_and_then}
+use Rattle.std.specs.Prelude.{option_map, Result, Ok, Err}
 use Rattle.std.specs.Option.{ok_or}
 use Rattle.std.specs.Result.{result_ok}
 use Rattle.std.specs.Str.{bytes_eq}
@@ -15,7 +16,9 @@ use Rattle.mx_cond.specs.declared.error.ConditionError.TheVariants.{BadCondition
 use Rattle.mx_cond.specs.declared.plain.Plain.{Plain}
 use Rattle.mx_cond.specs.declared.plain.Plain.TheVariants.{Null, Truth, Whole, Text}
 use Rattle.mx_cond.specs.declared.wanted.Wanted.{Wanted}
-use Rattle.mx_cond.specs.declared.wanted.Wanted.TheVariants.{EventMatch, EventPropertyIs, EventPropertyContains, RoomMemberCount, SenderNotificationPermission, ContainsDisplayName, Unknown}
+use Rattle.mx_cond.specs.declared.wanted.Wanted.TheVariants.{EventMatch, EventPropertyIs, EventPropertyContains}
+use Rattle.mx_cond.specs.declared.wanted.Wanted.TheVariants.{RoomMemberCount, SenderNotificationPermission}
+use Rattle.mx_cond.specs.declared.wanted.Wanted.TheVariants.{ContainsDisplayName, Unknown}
 use Rattle.mx_cond.specs.MemberCount.{count_asked}
 
 -- ---- the fields
@@ -58,9 +61,12 @@ unfoldable pub wanted_of_kind : List ℕ → Json → Option Wanted
 wanted_of_kind kind json =
     if bytes_eq kind (codes "event_match") then with_both EventMatch (path_in json) (pattern_in json)
     else (if bytes_eq kind (codes "event_property_is") then with_both EventPropertyIs (path_in json) (value_in json)
-    else (if bytes_eq kind (codes "event_property_contains") then with_both EventPropertyContains (path_in json) (value_in json)
-    else (if bytes_eq kind (codes "room_member_count") then option_map (λ is. RoomMemberCount (count_asked is)) (text_at (codes "is") json)
-    else (if bytes_eq kind (codes "sender_notification_permission") then option_map (λ key. SenderNotificationPermission key) (text_at (codes "key") json)
+    else (if bytes_eq kind (codes "event_property_contains")
+    then with_both EventPropertyContains (path_in json) (value_in json)
+    else (if bytes_eq kind (codes "room_member_count")
+    then option_map (λ is. RoomMemberCount (count_asked is)) (text_at (codes "is") json)
+    else (if bytes_eq kind (codes "sender_notification_permission")
+    then option_map (λ key. SenderNotificationPermission key) (text_at (codes "key") json)
     else (if bytes_eq kind (codes "contains_display_name") then Some ContainsDisplayName
     else Some Unknown)))))
 

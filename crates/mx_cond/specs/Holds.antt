@@ -1,5 +1,6 @@
 -- When a condition holds: the Client-Server API v1.11, "Conditions for push rules", kind by kind.
-use Rattle.std.specs.Prelude.{◌≡◌, ◌≢◌, ℕ, ◌≤ℤ◌, Bool, true, false, List, [], Option, Some, option_and_then, option_map, unwrap_or, IsSomeAnd, MatchBool, Any}
+use Rattle.std.specs.Prelude.{◌≡◌, ◌≢◌, ℕ, ◌≤ℤ◌, Bool, true, false, List, [], Option, Some, option_and_then, option_map}
+use Rattle.std.specs.Prelude.{unwrap_or, IsSomeAnd, MatchBool, Any}
 use Rattle.mx_json.specs.declared.value.Json.{Json, out-Json}
 use Rattle.mx_json.specs.declared.value.Json.TheOpen.{Json-F}
 use Rattle.mx_json.specs.declared.value.JsonList.{JsonList}
@@ -11,7 +12,9 @@ use Rattle.mx_glob.specs.Glob.{Matches}
 use Rattle.mx_glob.specs.Words.{HasWord, WordMatches}
 use Rattle.mx_cond.specs.declared.plain.Plain.{Plain}
 use Rattle.mx_cond.specs.declared.wanted.Wanted.{Wanted}
-use Rattle.mx_cond.specs.declared.wanted.Wanted.TheVariants.{EventMatch, EventPropertyIs, EventPropertyContains, RoomMemberCount, SenderNotificationPermission, ContainsDisplayName, Unknown}
+use Rattle.mx_cond.specs.declared.wanted.Wanted.TheVariants.{EventMatch, EventPropertyIs, EventPropertyContains}
+use Rattle.mx_cond.specs.declared.wanted.Wanted.TheVariants.{RoomMemberCount, SenderNotificationPermission}
+use Rattle.mx_cond.specs.declared.wanted.Wanted.TheVariants.{ContainsDisplayName, Unknown}
 pub use Rattle.mx_cond.specs.Body.{body_path, is_body}
 use Rattle.mx_cond.specs.Condition.{plain_of, wanted_by}
 use Rattle.mx_cond.specs.Facts.{EventFacts}

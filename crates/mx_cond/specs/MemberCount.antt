@@ -1,5 +1,7 @@
--- What `is` of a room_member_count condition asks: the Client-Server API v1.11, "Conditions for push rules", room_member_count; that a number has 1 to 15 digits is ours.
-use Rattle.std.specs.Prelude.{◌≡◌, ℕ, ◌<◌, ◌≤◌, Bool, ◌&&◌, if◌then◌else◌, nat_eq, nat_le, List, length, drop, codes, Option, Some, None, option_map, IsSomeAnd}
+-- What `is` of a room_member_count condition asks: the Client-Server API v1.11, "Conditions for push rules",
+-- room_member_count; that a number has 1 to 15 digits is ours.
+use Rattle.std.specs.Prelude.{◌≡◌, ℕ, ◌<◌, ◌≤◌, Bool, ◌&&◌, if◌then◌else◌, nat_eq, nat_le, List, length, drop, codes}
+use Rattle.std.specs.Prelude.{Option, Some, None, option_map, IsSomeAnd}
 use Rattle.std.specs.Char.{is_ascii_digit}
 use Rattle.std.specs.List.{list_all, starts_with}
 use Rattle.std.specs.Str.Parse.{digits_value}

@@ -1,4 +1,5 @@
--- What the power levels of a room say: the Client-Server API v1.11, m.room.power_levels; that a value which isn't a whole number counts as absent is ours.
+-- What the power levels of a room say: the Client-Server API v1.11, m.room.power_levels;
+-- that a value which isn't a whole number counts as absent is ours.
 use Rattle.std.specs.Prelude.{ℕ, ℤ, pos, List, codes, Option, option_and_then, option_map, unwrap_or}
 use Rattle.mx_json.specs.declared.value.Json.{Json}
 use Rattle.mx_json.specs.Json.{member, whole_at}

@@ -100,8 +100,8 @@ impl Condition {
         self.wanted.is_met(facts, scratch)
     }
 
-    /// Whether it may hold for one owner of the rules and not for another in the same room, with the
-    /// same event: so a contains_display_name alone.
+    /// Whether it may hold for one owner of the rules and not for another in the same room, with
+    /// the same event: so a contains_display_name alone.
     pub fn depends_on_owner(&self) -> bool
         ensures exactly { result ≡ depends_on_owner self.now }
         ensures otherwise { result ≡ false → (facts : EventFacts) (name : Option (List ℕ))

@@ -1,8 +1,8 @@
 use crate::power::PowerTable;
 use mx_event::Event;
 
-/// What a condition is judged by: an event, and what is known of its room for one user, the owner of
-/// the rules.
+/// What a condition is judged by: an event, and what is known of its room for one user, the owner
+/// of the rules.
 #[derive(Drop)]
 pub struct Facts<'a> {
     /// The event.

@@ -3,9 +3,14 @@
 ghost use Rattle.std.specs.Prelude.{◌≡◌, true, codes, option_map, Some};
 ghost use Rattle.mx_json.specs.Gives.{Gives};
 ghost use Rattle.mx_json.specs.Json.{is_valid, text_at};
-ghost use Rattle.mx_cond.specs.Condition.{or_bad, path_in, pattern_in, value_in, wanted_by, wanted_of_kind, with_both};
+ghost use Rattle.mx_cond.specs.Condition.{or_bad, path_in, pattern_in, value_in, wanted_by};
+ghost use Rattle.mx_cond.specs.Condition.{wanted_of_kind, with_both};
 ghost use Rattle.mx_cond.specs.MemberCount.{count_asked};
-ghost use Rattle.mx_cond.specs.declared.wanted.Wanted.TheVariants.{EventMatch, EventPropertyContains, EventPropertyIs, RoomMemberCount, SenderNotificationPermission};
+ghost use Rattle.mx_cond.specs.declared.wanted.Wanted.TheVariants.{EventMatch};
+ghost use Rattle.mx_cond.specs.declared.wanted.Wanted.TheVariants.{EventPropertyContains};
+ghost use Rattle.mx_cond.specs.declared.wanted.Wanted.TheVariants.{EventPropertyIs};
+ghost use Rattle.mx_cond.specs.declared.wanted.Wanted.TheVariants.{RoomMemberCount};
+ghost use Rattle.mx_cond.specs.declared.wanted.Wanted.TheVariants.{SenderNotificationPermission};
 
 use crate::count::count_asked;
 use crate::error::ConditionError;
@@ -78,7 +83,8 @@ fn event_property_contains(alloc: Global, json: &Json) -> Result<Wanted, Conditi
 fn room_member_count(json: &Json) -> Result<Wanted, ConditionError>
     requires { is_valid json.now ≡ true }
     ensures { Gives ConditionError.OutOfMemory result
-        (or_bad (option_map (λ is. RoomMemberCount (count_asked is)) (text_at (codes "is") json.now))) }
+        (or_bad
+        (option_map (λ is. RoomMemberCount (count_asked is)) (text_at (codes "is") json.now))) }
 {
     match json.text_at("is") {
         Some(is) => Ok(Wanted::RoomMemberCount(count_asked(is))),
@@ -89,7 +95,8 @@ fn room_member_count(json: &Json) -> Result<Wanted, ConditionError>
 fn sender_notification_permission(alloc: Global, json: &Json) -> Result<Wanted, ConditionError>
     requires { is_valid json.now ≡ true }
     ensures { Gives ConditionError.OutOfMemory result
-        (or_bad (option_map (λ key. SenderNotificationPermission key) (text_at (codes "key") json.now))) }
+        (or_bad
+        (option_map (λ key. SenderNotificationPermission key) (text_at (codes "key") json.now))) }
 {
     match json.text_at("key") {
         Some(key) => Ok(Wanted::SenderNotificationPermission(JsonText::read(alloc, key)?)),

@@ -54,8 +54,8 @@ impl PowerTable {
         Ok(PowerTable { content })
     }
 
-    /// The power that a notification with this key needs: `notifications[key]` where that is a whole
-    /// number, else 50. It takes no memory.
+    /// The power that a notification with this key needs: `notifications[key]` where that is a
+    /// whole number, else 50. It takes no memory.
     #[tactic(auto, unfolding(crate::specs::PowerLevels::needed_power))]
     pub fn needed(&self, key: &str) -> i64
         ensures { result ≡ needed_power key.now self.now }
@@ -71,8 +71,8 @@ impl PowerTable {
     }
 
     /// The power of a user: `users[user]`, else `users_default`, else 0, where values that aren't
-    /// whole numbers count as absent. `None` exactly where the room has no power levels. It takes no
-    /// memory.
+    /// whole numbers count as absent. `None` exactly where the room has no power levels. It takes
+    /// no memory.
     pub fn power(&self, user: &str) -> Option<i64>
         ensures { result ≡ power_of user.now self.now }
     {

@@ -1,4 +1,5 @@
-ghost use Rattle.std.specs.Prelude.{◌≡◌, ◌≢◌, ◌<◌, ◌↔◌, Ok, IfOk, IsAscii, IsTrue, EachIndex, map, slice_index};
+ghost use Rattle.std.specs.Prelude.{◌≡◌, ◌≢◌, ◌<◌, ◌↔◌, Ok, IfOk, IsAscii, IsTrue, EachIndex, map};
+ghost use Rattle.std.specs.Prelude.{slice_index};
 ghost use Rattle.std.specs.Char.{to_ascii_lowercase};
 ghost use Rattle.mx_json.specs.Folded.{folded};
 ghost use Rattle.mx_glob.specs.FoldedPattern.{folded_pattern};

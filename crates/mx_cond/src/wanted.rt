@@ -1,7 +1,8 @@
 ghost use Rattle.std.specs.Prelude.{◌≡◌, ◌↔◌, Any, IfOk, IsTrue};
 ghost use Rattle.std.specs.Option.{option_copied};
 ghost use Rattle.mx_cond.specs.Facts.{told_by};
-ghost use Rattle.mx_cond.specs.Holds.{wants_name, Equals, HasMember, HasText, HasValue, IsMet, MatchesAt, NamesOwner};
+ghost use Rattle.mx_cond.specs.Holds.{wants_name, Equals, HasMember, HasText, HasValue, IsMet};
+ghost use Rattle.mx_cond.specs.Holds.{MatchesAt, NamesOwner};
 ghost use Rattle.mx_cond.specs.MemberCount.{IsAsAsked};
 
 use crate::count::MemberCount;

@@ -2,11 +2,13 @@
 use Rattle.std.specs.Prelude.{ℕ, nat_lt, Bool, true, not, ◌&&◌, List, map, length}
 use Rattle.std.specs.List.{list_all}
 use Rattle.mx_json.specs.declared.value.Json.{Json, Truth, Text}
-use Rattle.mx_rule.specs.Predefined.{contains_display_name, event_match, event_property_contains, event_property_is, highlight, may_notify_room, notify, room_member_count, sound}
+use Rattle.mx_rule.specs.Predefined.{contains_display_name, event_match, event_property_contains, event_property_is}
+use Rattle.mx_rule.specs.Predefined.{highlight, may_notify_room, notify, room_member_count, sound}
 use Rattle.mx_rule.specs.Rule.{PushRule}
 use Rattle.mx_rule.specs.declared.criterion.Criterion.TheVariants.{Conditions}
 use Rattle.mx_defaults.specs.declared.row.Asked.{Asked}
-use Rattle.mx_defaults.specs.declared.row.Asked.TheVariants.{Matches, MatchesOwner, ContainsOwner, IsText, IsTrue, Members, MayNotifyRoom, NamesOwner}
+use Rattle.mx_defaults.specs.declared.row.Asked.TheVariants.{Matches, MatchesOwner, ContainsOwner, IsText, IsTrue}
+use Rattle.mx_defaults.specs.declared.row.Asked.TheVariants.{Members, MayNotifyRoom, NamesOwner}
 use Rattle.mx_defaults.specs.declared.row.Does.{Does}
 use Rattle.mx_defaults.specs.declared.row.Does.TheVariants.{Notify, Sound, Highlight}
 use Rattle.mx_defaults.specs.declared.row.Row.{Row}
@@ -56,7 +58,8 @@ is_ascii_text text = list_all (λ byte. nat_lt byte 128) text
 
 -- the texts of a condition are ASCII, its patterns can be patterns, and so can the owner's id where it asks for it
 abbrev pub is_readable : List ℕ → Asked → Bool
-is_readable owner (Matches key pattern) = is_pattern_text pattern.now && (is_ascii_text key.now && is_ascii_text pattern.now)
+is_readable owner (Matches key pattern) =
+    is_pattern_text pattern.now && (is_ascii_text key.now && is_ascii_text pattern.now)
 is_readable owner (MatchesOwner key) = is_pattern_text owner && is_ascii_text key.now
 is_readable owner (ContainsOwner key) = is_ascii_text key.now
 is_readable owner (IsText key text) = is_ascii_text key.now && is_ascii_text text.now

@@ -1,8 +1,10 @@
 ghost use Rattle.std.specs.Prelude.{◌≡◌, true, map, IfOk, IsSome};
 ghost use Rattle.std.specs.List.{list_all};
 ghost use Rattle.mx_json.specs.Ids.{localpart_of};
-ghost use Rattle.mx_rule.specs.Predefined.{content_table, localpart_rule, override_table, predefined_rules, underride_table};
-ghost use Rattle.mx_defaults.specs.Row.{actions_of, are_sayable, condition_of, conditions_asked, is_readable, is_readable_row, is_pattern_text, rule_of};
+ghost use Rattle.mx_rule.specs.Predefined.{content_table, localpart_rule, override_table};
+ghost use Rattle.mx_rule.specs.Predefined.{predefined_rules, underride_table};
+ghost use Rattle.mx_defaults.specs.Row.{actions_of, are_sayable, condition_of, conditions_asked};
+ghost use Rattle.mx_defaults.specs.Row.{is_readable, is_readable_row, is_pattern_text, rule_of};
 
 use crate::row::{Asked, Does, Row};
 use crate::table::{CONTENT_DOES, CONTENT_ID, OVERRIDE, UNDERRIDE};

@@ -87,14 +87,16 @@ fn property_is_true(alloc: Global, key: &str) -> Result<Json, OutOfMemory>
 
 // A value that is an object of texts.
 fn texts(alloc: Global, members: &[(&str, &str)]) -> Result<Json, OutOfMemory>
-    ensures { IfOk result (λ json. json ≡ Object record { pairs = map (λ member. (member.0.now, Text member.1.now)) members.now }) }
+    ensures { IfOk result (λ json. json
+        ≡ Object record { pairs = map (λ member. (member.0.now, Text member.1.now)) members.now }) }
 {
     Ok(Json::Object(object_of(alloc, members)?))
 }
 
 // An object whose members are texts.
 fn object_of(alloc: Global, members: &[(&str, &str)]) -> Result<JsonObject, OutOfMemory>
-    ensures { IfOk result (λ object. object.pairs ≡ map (λ member. (member.0.now, Text member.1.now)) members.now) }
+    ensures { IfOk result
+        (λ object. object.pairs ≡ map (λ member. (member.0.now, Text member.1.now)) members.now) }
 {
     let mut pairs = Vec::with_capacity(alloc, members.len())?;
     for (key, value) in members {

@@ -1,5 +1,6 @@
 -- To put a rule beside or over another is to insert it at, or to set, the place that a search finds.
-use Rattle.std.proofs.Common.{◌≡◌, ℕ, ◌+◌, add-one, Bool, true, false, cond, List, [], ◌∷◌, length, insert, position, slice_set, Option, Some, None, option_map, unwrap_or, is_some, refl, sym, ap, ◌∙◌}
+use Rattle.std.proofs.Common.{◌≡◌, ℕ, ◌+◌, add-one, Bool, true, false, cond, List, [], ◌∷◌, length, insert, position}
+use Rattle.std.proofs.Common.{slice_set, Option, Some, None, option_map, unwrap_or, is_some, refl, sym, ap, ◌∙◌}
 use Rattle.std.specs.Option.{option_map_or}
 use Rattle.std.proofs.lemmas.Bool.{cond-false, cond-true}
 use Rattle.mx_rule.specs.declared.kind.Kind.{Kind}

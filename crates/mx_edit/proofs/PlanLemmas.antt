@@ -1,5 +1,6 @@
 -- Plans and answers: what makes of the rules what an edit makes is its plan, and the first step that refuses is told.
-use Rattle.std.proofs.Common.{◌≡◌, ℕ, Bool, true, false, not, cond, List, Option, Some, None, option_map, inl, inr, refl, sym, ap, subst, ◌∙◌, Result, Err}
+use Rattle.std.proofs.Common.{◌≡◌, ℕ, Bool, true, false, not, cond, List, Option, Some, None, option_map, inl, inr}
+use Rattle.std.proofs.Common.{refl, sym, ap, subst, ◌∙◌, Result, Err}
 use Rattle.std.specs.Option.{option_map_or, option_or}
 use Rattle.mx_json.specs.declared.value.JsonList.{JsonList}
 use Rattle.mx_rule.specs.declared.edit.Edit.{Edit}
@@ -9,12 +10,15 @@ use Rattle.mx_rule.specs.declared.edit.EditRefusal.TheVariants.{RuleReserved, Ba
 use Rattle.mx_rule.specs.declared.edit.Part.TheVariants as part
 use Rattle.mx_rule.specs.declared.kind.Kind.{Kind}
 use Rattle.mx_rule.specs.declared.list_change.ListChange.{ListChange}
-use Rattle.mx_rule.specs.Editing.{are_actions, are_conditions_for, list_changed, edited, edited_kind, edited_list, is_id_for, is_pattern_for, is_reserved, is_unfit, refusal_of_absence, refusal_of_edit, refusal_of_place, with_list}
+use Rattle.mx_rule.specs.Editing.{are_actions, are_conditions_for, list_changed, edited, edited_kind, edited_list}
+use Rattle.mx_rule.specs.Editing.{is_id_for, is_pattern_for, is_reserved, is_unfit, refusal_of_absence, refusal_of_edit}
+use Rattle.mx_rule.specs.Editing.{refusal_of_place, with_list}
 use Rattle.mx_rule.specs.Ruleset.{PushRuleset, are_rules_of, rules_of_kind}
 use Rattle.mx_rule.proofs.EditedLemmas.{edited_list-are}
 use Rattle.mx_edit.specs.declared.error.EditError.{EditError}
 use Rattle.mx_edit.specs.declared.error.EditError.TheVariants.{Refused}
-use Rattle.mx_edit.specs.Planning.{is_made_for, planned, refusal_of_actions, refusal_of_criterion, refusal_of_id, IsPlanOf, Tells, Tries}
+use Rattle.mx_edit.specs.Planning.{is_made_for, planned, refusal_of_actions, refusal_of_criterion, refusal_of_id}
+use Rattle.mx_edit.specs.Planning.{IsPlanOf, Tells, Tries}
 
 -- ---- plans
 

@@ -1,5 +1,6 @@
 -- What a plan of an edit does, and how an edit is answered: ours.
-use Rattle.std.specs.Prelude.{◌≡◌, ℕ, Bool, true, not, if◌then◌else◌, List, Option, Some, None, option_map, Result, MatchResult, ◌⊎◌}
+use Rattle.std.specs.Prelude.{◌≡◌, ℕ, Bool, true, not, if◌then◌else◌, List, Option, Some, None, option_map, Result}
+use Rattle.std.specs.Prelude.{MatchResult, ◌⊎◌}
 use Rattle.std.specs.List.{list_all}
 use Rattle.mx_cond.specs.Condition.{is_condition}
 use Rattle.mx_json.specs.declared.value.Json.{Json}
@@ -10,7 +11,8 @@ use Rattle.mx_rule.specs.declared.edit.EditRefusal.{EditRefusal}
 use Rattle.mx_rule.specs.declared.edit.EditRefusal.TheVariants.{RuleReserved, BadRule}
 use Rattle.mx_rule.specs.declared.edit.Part.TheVariants as part
 use Rattle.mx_rule.specs.declared.kind.Kind.{Kind}
-use Rattle.mx_rule.specs.Editing.{are_actions, are_conditions, are_conditions_for, list_changed, criterion_of, edited, is_id_for, is_pattern_for, is_unfit, is_valid_edit, with_list}
+use Rattle.mx_rule.specs.Editing.{are_actions, are_conditions, are_conditions_for, list_changed, criterion_of, edited}
+use Rattle.mx_rule.specs.Editing.{is_id_for, is_pattern_for, is_unfit, is_valid_edit, with_list}
 use Rattle.mx_rule.specs.Rule.{PushRule}
 use Rattle.mx_rule.specs.Ruleset.{PushRuleset, are_rules_of, rules_of_kind}
 use Rattle.mx_edit.specs.declared.error.EditError.{EditError}

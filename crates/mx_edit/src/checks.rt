@@ -1,12 +1,16 @@
 //! What an edit is tested for, part by part.
 
-ghost use Rattle.std.specs.Prelude.{◌≡◌, true, None, Some, IfSome, MatchResult, length, position, nat_lt};
+ghost use Rattle.std.specs.Prelude.{◌≡◌, true, None, Some, IfSome, MatchResult, length, position};
+ghost use Rattle.std.specs.Prelude.{nat_lt};
 ghost use Rattle.std.specs.List.{list_all, list_any};
 ghost use Rattle.std.specs.Option.{option_copied};
 ghost use Rattle.mx_json.specs.Ids.{holds_byte};
 ghost use Rattle.mx_json.specs.Json.{is_valid};
 ghost use Rattle.mx_edit.specs.Planning.{refusal_of_actions, refusal_of_id};
-ghost use Rattle.mx_rule.specs.Editing.{are_actions, has_id, has_room, is_action, is_action_word, is_anchor, is_anchored, is_id_for, is_own_with, is_reserved, is_unfit, own_count, refusal_of_absence, refusal_of_place};
+ghost use Rattle.mx_rule.specs.Editing.{are_actions, has_id, has_room, is_action, is_action_word};
+ghost use Rattle.mx_rule.specs.Editing.{is_anchor, is_anchored, is_id_for, is_own_with};
+ghost use Rattle.mx_rule.specs.Editing.{is_reserved, is_unfit, own_count, refusal_of_absence};
+ghost use Rattle.mx_rule.specs.Editing.{refusal_of_place};
 ghost use Rattle.mx_rule.specs.Ruleset.{are_rules_of, rules_of_kind};
 
 use mx_json::{Json, JsonList, JsonText, is_room_id, is_user_id};

@@ -4,7 +4,8 @@ ghost use Rattle.std.specs.Prelude.{◌≡◌, true};
 ghost use Rattle.std.specs.List.{list_all};
 ghost use Rattle.mx_json.specs.Json.{is_valid};
 ghost use Rattle.mx_cond.specs.Condition.{is_condition};
-ghost use Rattle.mx_edit.specs.Planning.{refusal_of_conditions, refusal_of_criterion, refusal_of_each, refusal_unless, Tries};
+ghost use Rattle.mx_edit.specs.Planning.{refusal_of_conditions, refusal_of_criterion};
+ghost use Rattle.mx_edit.specs.Planning.{refusal_of_each, refusal_unless, Tries};
 ghost use Rattle.mx_rule.specs.Editing.{criterion_of, given_items};
 
 use crate::error::EditError;

@@ -1,8 +1,10 @@
 //! The rules of a kind with one more among them.
 
-ghost use Rattle.std.specs.Prelude.{◌≡◌, ◌+◌, ◌<◌, ◌≤◌, not, length, position, slice_set, IfOk, IfSome};
+ghost use Rattle.std.specs.Prelude.{◌≡◌, ◌+◌, ◌<◌, ◌≤◌, not, length, position, slice_set, IfOk};
+ghost use Rattle.std.specs.Prelude.{IfSome};
 ghost use Rattle.std.specs.Option.{option_map_or};
-ghost use Rattle.mx_rule.specs.Editing.{is_own_with, put_after, put_before, put_by_itself, put_first_own, with_put, without};
+ghost use Rattle.mx_rule.specs.Editing.{is_own_with, put_after, put_before, put_by_itself};
+ghost use Rattle.mx_rule.specs.Editing.{put_first_own, with_put, without};
 ghost use Rattle.mx_rule.specs.Ruleset.{is_master};
 
 use crate::checks::is_own_with;

@@ -1,8 +1,10 @@
 -- No two threads have a row at one position, whatever is pushed above all rows or cut; so the lists of the
 -- threads alone say in which order these stand.
-use Rattle.std.proofs.Common.{◌≡◌, ℕ, ◌<◌, ◌≤◌, nat_eq, nat_le, nat_lt, Bool, true, false, cond, ◌&&◌, ◌||◌, List, [], ◌∷◌, ◌++◌, map, filter, All, ◌⊎◌, inl, inr, ⊎_elim, refl, sym, ap, subst, ◌∙◌, arith}
+use Rattle.std.proofs.Common.{◌≡◌, ℕ, ◌<◌, ◌≤◌, nat_eq, nat_le, nat_lt, Bool, true, false, cond, ◌&&◌, ◌||◌, List, []}
+use Rattle.std.proofs.Common.{◌∷◌, ◌++◌, map, filter, All, ◌⊎◌, inl, inr, ⊎_elim, refl, sym, ap, subst, ◌∙◌, arith}
 use Rattle.std.specs.List.{AllByRecursion, IsDistinct, list_all, list_any}
-use Rattle.std.proofs.lemmas.Bool.{and_parts, eq-eqb, eqb-true, false≢true, leb-true, ne_eqb, or_cases, or_from, or_left, or_parts, or_right}
+use Rattle.std.proofs.lemmas.Bool.{and_parts, eq-eqb, eqb-true, false≢true, leb-true, ne_eqb, or_cases, or_from}
+use Rattle.std.proofs.lemmas.Bool.{or_left, or_parts, or_right}
 use Rattle.std.proofs.lemmas.List.Elements.{All-weaker}
 use Rattle.std.proofs.lemmas.List.Folds.{list_any-append, list_any_none}
 use Rattle.std.proofs.lemmas.Map.Keys.{IsDistinct-head, IsDistinct-tail}
@@ -13,7 +15,8 @@ use Rattle.mx_rows.specs.declared.row.Row.{Row}
 use Rattle.mx_rows.specs.declared.thread_key.ThreadKey.{ThreadKey}
 use Rattle.mx_rows.specs.Rows.{above, are_in_order, has_rows, never_falls, start_of, with_rows}
 use Rattle.mx_rows.specs.Threads.{has_thread, same_thread, same_thread-equiv}
-use Rattle.mx_engine.specs.KeptRows.{AreApart, AreRoomRows, AreUnreadRows, AreUserRows, has_row_at, list_at, list_in, of_user, rows_in, some_entries, thread_rows, threads_in}
+use Rattle.mx_engine.specs.KeptRows.{AreApart, AreRoomRows, AreUnreadRows, AreUserRows, has_row_at, list_at, list_in}
+use Rattle.mx_engine.specs.KeptRows.{of_user, rows_in, some_entries, thread_rows, threads_in}
 use Rattle.mx_records.specs.Snapshot.{RoomRows, rows_by_thread, some_rows}
 use Rattle.mx_engine.proofs.RoomRowsLemmas.{same_thread-exact}
 

@@ -1,5 +1,6 @@
 -- Why an input is refused, by why it is refused whatever its length and whether it is too long.
-use Rattle.std.proofs.Common.{◌≡◌, ℕ, List, Bool, true, false, cond, not, Option, Some, None, option_map, Result, Ok, Err, refl, ap, ◌∙◌}
+use Rattle.std.proofs.Common.{◌≡◌, ℕ, List, Bool, true, false, cond, not, Option, Some, None, option_map, Result, Ok}
+use Rattle.std.proofs.Common.{Err, refl, ap, ◌∙◌}
 use Rattle.std.specs.Option.{option_map_or, option_or}
 use Rattle.mx_json.specs.Ids.{is_local}
 use Rattle.mx_event.specs.Event.{event_id_of}
@@ -11,12 +12,14 @@ use Rattle.mx_rows.specs.declared.thread_key.ThreadKey.{ThreadKey}
 use Rattle.mx_records.specs.declared.input.Input.{Input}
 use Rattle.mx_records.specs.declared.input.Input.TheVariants.{Event, Edit, Receipt, Pusher}
 use Rattle.mx_records.specs.declared.refusal.Refusal.{Refusal}
-use Rattle.mx_records.specs.declared.refusal.Refusal.TheVariants.{EntryTooLong, Full, KnownEvent, NotInThread, NotLocal, UnknownEvent}
+use Rattle.mx_records.specs.declared.refusal.Refusal.TheVariants.{EntryTooLong, Full, KnownEvent, NotInThread, NotLocal}
+use Rattle.mx_records.specs.declared.refusal.Refusal.TheVariants.{UnknownEvent}
 use Rattle.mx_records.specs.Counting.{is_in}
 use Rattle.mx_records.specs.History.{Happening, History, events}
 use Rattle.mx_records.specs.Normal.{IsNormal}
 use Rattle.mx_records.specs.Places.{is_event_with, position_of}
-use Rattle.mx_records.specs.Refusing.{is_full, is_read_in, is_too_long, refusal_by, refusal_of, refusal_of_any, refusal_of_content, refusal_of_read, IsAcceptableInput, IsBuilt}
+use Rattle.mx_records.specs.Refusing.{is_full, is_read_in, is_too_long, refusal_by, refusal_of, refusal_of_any}
+use Rattle.mx_records.specs.Refusing.{refusal_of_content, refusal_of_read, IsAcceptableInput, IsBuilt}
 use Rattle.mx_records.specs.Rules.{rules_of}
 use Rattle.mx_engine.specs.declared.error.PrepareError.{PrepareError}
 use Rattle.mx_engine.specs.declared.error.PrepareError.TheVariants.{Refused, OutOfMemory}
@@ -140,7 +143,8 @@ pub too-long-full : (server : List ℕ) (h : History) (input : Input) (error : P
     → IsPrepared server h input (Err error)
 unfolding refusal_of_any refusal_of
 too-long-full server h input (Refused told) any length =
-    long-full-by (refusal_of_content server h input) (is_too_long input) (is_full h) told (content-not_full server h input)
+    long-full-by (refusal_of_content server h input) (is_too_long input) (is_full h) told
+    (content-not_full server h input)
     any length
 too-long-full server h input OutOfMemory any length = tt
 

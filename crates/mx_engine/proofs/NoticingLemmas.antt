@@ -1,5 +1,7 @@
 -- Whom an event notifies, found among the joined local users before it and the one whom it makes a member.
-use Rattle.std.proofs.Common.{◌≡◌, ℕ, ◌+◌, ◌<◌, Bool, true, false, cond, not, ◌&&◌, ◌||◌, List, [], ◌∷◌, ◌++◌, length, get_or, take, codes, Option, Some, None, Ok, Err, ◌⊎◌, inl, inr, is_some, option_map, option_and_then, refl, ap, ap₂, subst, sym, ◌∙◌}
+use Rattle.std.proofs.Common.{◌≡◌, ℕ, ◌+◌, ◌<◌, Bool, true, false, cond, not, ◌&&◌, ◌||◌, List, [], ◌∷◌, ◌++◌, length}
+use Rattle.std.proofs.Common.{get_or, take, codes, Option, Some, None, Ok, Err, ◌⊎◌, inl, inr, is_some, option_map}
+use Rattle.std.proofs.Common.{option_and_then, refl, ap, ap₂, subst, sym, ◌∙◌}
 use Rattle.std.specs.Cmp.Lexicographic.{nat_list_eq_equiv, slice_cmp}
 use Rattle.std.specs.FinMap.{from_entries, get, keys}
 use Rattle.std.specs.List.{AllByRecursion, IsDistinct, cons_option, list_any}

@@ -1,5 +1,7 @@
 -- The rows that an engine keeps are those of its history, and go on by an input as these do.
-use Rattle.std.proofs.Common.{◌≡◌, ℕ, ◌+◌, ◌≤◌, ◌<◌, nat_le, Bool, true, false, cond, not, ◌&&◌, ◌||◌, List, [], ◌∷◌, ◌++◌, codes, map, filter, length, Option, Some, None, option_and_then, unwrap_or, IfNone, IfSome, refl, ap, subst, sym, ◌∙◌, arith}
+use Rattle.std.proofs.Common.{◌≡◌, ℕ, ◌+◌, ◌≤◌, ◌<◌, nat_le, Bool, true, false, cond, not, ◌&&◌, ◌||◌, List, [], ◌∷◌}
+use Rattle.std.proofs.Common.{◌++◌, codes, map, filter, length, Option, Some, None, option_and_then, unwrap_or, IfNone}
+use Rattle.std.proofs.Common.{IfSome, refl, ap, subst, sym, ◌∙◌, arith}
 use Rattle.std.specs.FinMap.{empty, get}
 use Rattle.std.specs.List.{IsDistinct, list_all}
 use Rattle.std.specs.Option.{option_map_or}
@@ -36,8 +38,10 @@ use Rattle.mx_records.specs.KeptRows.{thread_rows as kept_of}
 use Rattle.mx_records.proofs.NoticeLemmas.{get-noticed, next_row-noticed, rows_by, unjudged}
 use Rattle.mx_records.proofs.SnapshotLemmas.{moves-mover, thread_rows-unread, unread_rows-lists}
 use Rattle.mx_records.proofs.UnreadLemmas.{above-none, is_told, next_row, rows_of-event, rows_of-receipt, rows_of-upto}
-use Rattle.mx_engine.specs.KeptRows.{AreRoomRows, AreUnreadRows, AreUserRows, list_at, of_user, rows_in, some_entries, thread_rows, threads_in}
-use Rattle.mx_engine.specs.Planning.{PlannedEvent, PlannedRead, mover_of, row_added, row_said, rows_moved, rows_with_event, rows_with_read}
+use Rattle.mx_engine.specs.KeptRows.{AreRoomRows, AreUnreadRows, AreUserRows, list_at, of_user, rows_in, some_entries}
+use Rattle.mx_engine.specs.KeptRows.{thread_rows, threads_in}
+use Rattle.mx_engine.specs.Planning.{PlannedEvent, PlannedRead, mover_of, row_added, row_said, rows_moved}
+use Rattle.mx_engine.specs.Planning.{rows_with_event, rows_with_read}
 use Rattle.mx_engine.proofs.ApartLemmas.{by_thread-itself, has_thread-rows}
 
 -- ---- lists of rows

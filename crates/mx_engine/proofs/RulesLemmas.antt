@@ -1,5 +1,7 @@
 -- What is shown of the rules that are kept, what an entry more or a changed one changes there, and what the rules say.
-use Rattle.std.proofs.Common.{◌≡◌, ℕ, Bor, Bool, true, false, cond, not, ◌&&◌, ◌||◌, List, [], ◌∷◌, codes, Option, Some, None, Result, IfOk, IfSome, is_some, option_and_then, option_map, unwrap_or, refl, ap, subst, sym, ◌∙◌}
+use Rattle.std.proofs.Common.{◌≡◌, ℕ, Bor, Bool, true, false, cond, not, ◌&&◌, ◌||◌, List, [], ◌∷◌, codes, Option, Some}
+use Rattle.std.proofs.Common.{None, Result, IfOk, IfSome, is_some, option_and_then, option_map, unwrap_or, refl, ap}
+use Rattle.std.proofs.Common.{subst, sym, ◌∙◌}
 use Rattle.std.specs.Cmp.Lexicographic.{nat_list_cmp_total, nat_list_eq_equiv, slice_cmp}
 use Rattle.std.specs.FinMap.{find, get, get-from_entries, insert}
 use Rattle.std.specs.FinSet as set

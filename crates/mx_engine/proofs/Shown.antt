@@ -1,5 +1,6 @@
 -- What an engine shows tells what its history refuses, and goes on by an input as the history does.
-use Rattle.std.proofs.Common.{◌≡◌, ℕ, ◌+◌, List, [], Bool, true, false, not, ◌||◌, Option, Some, None, ◌⊎◌, inl, inr, Err, cond, refl, ap, sym, subst, ◌∙◌}
+use Rattle.std.proofs.Common.{◌≡◌, ℕ, ◌+◌, List, [], Bool, true, false, not, ◌||◌, Option, Some, None, ◌⊎◌, inl, inr}
+use Rattle.std.proofs.Common.{Err, cond, refl, ap, sym, subst, ◌∙◌}
 use Rattle.std.specs.Prelude.{find, nat_le, option_map, unwrap_or}
 use Rattle.std.specs.FinMap.{empty, get, insert}
 use Rattle.std.specs.Option.{option_map_or, option_or}
@@ -30,7 +31,8 @@ use Rattle.mx_records.specs.declared.refusal.Refusal.TheVariants.{Full, KnownEve
 use Rattle.mx_records.specs.History.{History, additions_after, events, inputs_of, with_input}
 use Rattle.mx_records.specs.Judging.{notices_in}
 use Rattle.mx_records.specs.Places.{is_event_with, places_of, position_of, thread, with_place}
-use Rattle.mx_records.specs.Refusing.{NamesAPosition, most_inputs, refusal_by, refusal_of_any, refusal_of_content, refusal_of_read}
+use Rattle.mx_records.specs.Refusing.{NamesAPosition, most_inputs, refusal_by, refusal_of_any, refusal_of_content}
+use Rattle.mx_records.specs.Refusing.{refusal_of_read}
 use Rattle.mx_json.specs.Ids.{is_local}
 use Rattle.mx_records.specs.Rooms.{events_of, room_after}
 use Rattle.mx_records.specs.Rules.{edited_rules, own_rules, rules_among, rules_of}
@@ -44,7 +46,8 @@ use Rattle.mx_engine.specs.declared.error.PrepareError.{PrepareError}
 use Rattle.mx_engine.specs.declared.error.PrepareError.TheVariants.{OutOfMemory, Refused as Unprepared}
 use Rattle.mx_engine.specs.Preparing.{IsPlanned, SaysOfContent}
 use Rattle.mx_engine.specs.KeptRows.{AreUnreadRows, list_at}
-use Rattle.mx_engine.specs.Planning.{adds, edits, reads, IsPlannedFor, IsReadFor, PlannedEvent, PlannedRead, Suits, mover_of, rows_with_event, rows_with_read, with_edit, with_event, with_read}
+use Rattle.mx_engine.specs.Planning.{adds, edits, reads, IsPlannedFor, IsReadFor, PlannedEvent, PlannedRead, Suits}
+use Rattle.mx_engine.specs.Planning.{mover_of, rows_with_event, rows_with_read, with_edit, with_event, with_read}
 use Rattle.mx_engine.specs.Reading.{is_read_at, position_at, refusal_at}
 use Rattle.mx_engine.proofs.RowsShown.{list-unread, rows-event, rows-read, unread-only}
 

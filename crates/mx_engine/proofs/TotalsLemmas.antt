@@ -1,5 +1,6 @@
 -- The counts of a room's threads add up to those of the room, and no history has more than inputs.
-use Rattle.std.proofs.Common.{◌≡◌, ℕ, ◌+◌, ◌*◌, ◌≤◌, ◌⊎◌, inl, inr, min, not, Bool, List, [], ◌∷◌, length, map, filter, suc, take, Option, None, Some, zero-le, refl, ap, sym, ◌∙◌, arith}
+use Rattle.std.proofs.Common.{◌≡◌, ℕ, ◌+◌, ◌*◌, ◌≤◌, ◌⊎◌, inl, inr, min, not, Bool, List, [], ◌∷◌, length, map, filter}
+use Rattle.std.proofs.Common.{suc, take, Option, None, Some, zero-le, refl, ap, sym, ◌∙◌, arith}
 use Rattle.std.specs.Prelude.{slice_get}
 use Rattle.std.specs.List.{count_by, sum_by}
 use Rattle.std.proofs.lemmas.List.{length-map, take_all}
@@ -10,7 +11,8 @@ use Rattle.mx_rows.specs.declared.row.Row.{Row}
 use Rattle.mx_rows.specs.declared.thread_key.ThreadKey.{ThreadKey}
 use Rattle.mx_rows.specs.Rows.{counts_in}
 use Rattle.mx_rows.specs.Threads.{same_thread}
-use Rattle.mx_records.specs.Counting.{counts_of, each_once, is_unread, room_counts_of, row_of, rows_of, thread_in, threads_of, unread}
+use Rattle.mx_records.specs.Counting.{counts_of, each_once, is_unread, room_counts_of, row_of, rows_of, thread_in}
+use Rattle.mx_records.specs.Counting.{threads_of, unread}
 use Rattle.mx_records.specs.History.{Happening, History, events, inputs_of}
 use Rattle.mx_records.specs.Refusing.{most_inputs}
 use Rattle.mx_records.proofs.ShownLemmas.{events-le}

@@ -1,5 +1,6 @@
 -- What is shown of all users' rows, at a user, a room and a thread, and once a user's were written.
-use Rattle.std.proofs.Common.{◌≡◌, ℕ, Bool, true, false, cond, nat_eq, ◌&&◌, ◌||◌, List, [], ◌∷◌, ◌++◌, Option, Some, None, IfSome, option_and_then, unwrap_or, refl, ap, subst, sym, ◌∙◌}
+use Rattle.std.proofs.Common.{◌≡◌, ℕ, Bool, true, false, cond, nat_eq, ◌&&◌, ◌||◌, List, [], ◌∷◌, ◌++◌, Option, Some}
+use Rattle.std.proofs.Common.{None, IfSome, option_and_then, unwrap_or, refl, ap, subst, sym, ◌∙◌}
 use Rattle.std.specs.Cmp.Lexicographic.{slice_cmp}
 use Rattle.std.specs.FinMap.{empty, get, get-empty, len-empty}
 use Rattle.std.specs.FinSet as set
@@ -13,7 +14,10 @@ use Rattle.mx_room.proofs.TextsLemmas.{bytes_eq-same}
 use Rattle.mx_rows.specs.declared.row.Row.{Row}
 use Rattle.mx_rows.specs.declared.thread_key.ThreadKey.{ThreadKey}
 use Rattle.mx_rows.specs.Rows.{above}
-use Rattle.mx_engine.specs.KeptRows.{AreRoomRows, AreUnreadRows, AreUserRows, AreUsersRows, ThreadSet, UnreadView, UserRowsView, has_capacity, has_capacity_in, is_thread, is_users_room, is_users_thread, list_at, list_in, of_user, rows_in, shown_by, some_entries, thread_rows, thread_text, unread_view}
+use Rattle.mx_engine.specs.KeptRows.{AreRoomRows, AreUnreadRows, AreUserRows, AreUsersRows, ThreadSet, UnreadView}
+use Rattle.mx_engine.specs.KeptRows.{UserRowsView, has_capacity, has_capacity_in, is_thread, is_users_room}
+use Rattle.mx_engine.specs.KeptRows.{is_users_thread, list_at, list_in, of_user, rows_in, shown_by, some_entries}
+use Rattle.mx_engine.specs.KeptRows.{thread_rows, thread_text, unread_view}
 use Rattle.mx_records.specs.Snapshot.{RoomRows, some_rows}
 use Rattle.mx_engine.proofs.ApartLemmas.{same_unread}
 use Rattle.mx_engine.proofs.EntriesLemmas.{get-shown_by, read-written, unwrap-some_entries}

@@ -1,5 +1,7 @@
 -- The rows of a thread are no more than the inputs, and none stands above the last of these.
-use Rattle.std.proofs.Common.{◌≡◌, ℕ, ◌+◌, ◌≤◌, ◌<◌, nat_le, nat_lt, Bool, true, false, cond, ◌&&◌, List, [], ◌∷◌, ◌++◌, length, filter, All, Option, Some, None, unwrap_or, zero-le, refl, ap, subst, sym, ◌∙◌, arith, length-append}
+use Rattle.std.proofs.Common.{◌≡◌, ℕ, ◌+◌, ◌≤◌, ◌<◌, nat_le, nat_lt, Bool, true, false, cond, ◌&&◌, List, [], ◌∷◌, ◌++◌}
+use Rattle.std.proofs.Common.{length, filter, All, Option, Some, None, unwrap_or, zero-le, refl, ap, subst, sym, ◌∙◌}
+use Rattle.std.proofs.Common.{arith, length-append}
 use Rattle.std.specs.Cmp.Lexicographic.{slice_cmp}
 use Rattle.std.specs.FinMap.{empty, get, get-empty}
 use Rattle.std.specs.List.{count_by, list_all}
@@ -19,7 +21,8 @@ use Rattle.mx_records.specs.Cuts.{reaches}
 use Rattle.mx_records.specs.Refusing.{most_inputs}
 use Rattle.mx_records.specs.Snapshot.{RoomRows}
 use Rattle.mx_engine.specs.KeptRows.{is_users_room, list_at, list_in}
-use Rattle.mx_engine.specs.Planning.{AreUpto, PlannedEvent, PlannedRead, row_added, row_said, rows_moved, rows_with_event, rows_with_read}
+use Rattle.mx_engine.specs.Planning.{AreUpto, PlannedEvent, PlannedRead, row_added, row_said, rows_moved}
+use Rattle.mx_engine.specs.Planning.{rows_with_event, rows_with_read}
 use Rattle.mx_engine.proofs.RowsShown.{upto-added}
 use Rattle.mx_engine.proofs.UnreadLemmas.{list_in-empty}
 

@@ -1,5 +1,6 @@
 -- What is seen of a user's rooms, at a room and a thread; and what it is once a room was written or entered.
-use Rattle.std.proofs.Common.{◌≡◌, ◌<◌, ℕ, Bool, true, false, cond, ◌&&◌, ◌||◌, List, [], ◌∷◌, ◌++◌, All, Option, Some, None, option_and_then, unwrap_or, refl, ap, subst, sym, ◌∙◌}
+use Rattle.std.proofs.Common.{◌≡◌, ◌<◌, ℕ, Bool, true, false, cond, ◌&&◌, ◌||◌, List, [], ◌∷◌, ◌++◌, All, Option, Some}
+use Rattle.std.proofs.Common.{None, option_and_then, unwrap_or, refl, ap, subst, sym, ◌∙◌}
 use Rattle.std.specs.FinSet as set
 use Rattle.std.specs.List.{IsDistinct}
 use Rattle.std.specs.Map.{keys_of, lookup}
@@ -12,7 +13,9 @@ use Rattle.mx_rows.specs.declared.rows.Rows.{Ghosts}
 use Rattle.mx_rows.specs.declared.thread_key.ThreadKey.{ThreadKey}
 use Rattle.mx_rows.specs.Rows.{above, are_in_order, has_rows, is_rising, with_rows}
 use Rattle.mx_rows.specs.Threads.{has_thread, same_thread}
-use Rattle.mx_engine.specs.KeptRows.{AreApart, AreRoomRows, AreRooms, AreUserRows, UserRowsView, has_capacity_in, is_thread, list_in, rows_in, shown_capacity, shown_rows, thread_rows, thread_text, user_view}
+use Rattle.mx_engine.specs.KeptRows.{AreApart, AreRoomRows, AreRooms, AreUserRows, UserRowsView, has_capacity_in}
+use Rattle.mx_engine.specs.KeptRows.{is_thread, list_in, rows_in, shown_capacity, shown_rows, thread_rows, thread_text}
+use Rattle.mx_engine.specs.KeptRows.{user_view}
 use Rattle.mx_records.specs.Snapshot.{RoomRows, rows_by_thread, some_rows}
 use Rattle.mx_engine.proofs.ApartLemmas.{apart-cut, apart-pushed, apart-same, same_user_rows}
 use Rattle.mx_engine.proofs.EntriesLemmas.{get-shown_by, read-written}

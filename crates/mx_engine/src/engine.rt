@@ -1,4 +1,5 @@
-ghost use Rattle.std.specs.Prelude.{◌≡◌, ◌+◌, ◌≤◌, [], ℕ, Bool, List, None, true, slice_get, IfNone, IfOk, IfSome, OnOk};
+ghost use Rattle.std.specs.Prelude.{◌≡◌, ◌+◌, ◌≤◌, [], ℕ, Bool, List, None, true, slice_get};
+ghost use Rattle.std.specs.Prelude.{IfNone, IfOk, IfSome, OnOk};
 ghost use Rattle.std.specs.FinSet as set;
 ghost use Rattle.std.specs.Option.{option_copied};
 ghost use Rattle.mx_edit.specs.Planning.{is_made_for, IsPlanOf};
@@ -16,9 +17,12 @@ ghost use Rattle.mx_room.specs.Change.{sets_of};
 ghost use Rattle.mx_rule.specs.Editing.{is_valid_edit};
 ghost use Rattle.mx_thread.specs.Place.{place_in, thread_of};
 ghost use Rattle.mx_rows.specs.declared.thread_key.ThreadKey.{ThreadKey};
-ghost use Rattle.mx_engine.specs.Capacity.{HasCapacity, HasCapacityFor, SufficesFor, SufficesForRows};
+ghost use Rattle.mx_engine.specs.Capacity.{HasCapacity, HasCapacityFor, SufficesFor};
+ghost use Rattle.mx_engine.specs.Capacity.{SufficesForRows};
 ghost use Rattle.mx_engine.specs.KeptRows.{AreUnreadRows, list_at};
-ghost use Rattle.mx_engine.specs.Planning.{event_planned, read_planned, rows_with_event, rows_with_read, with_edit, with_event, with_read, IsMadeFor, IsPlacedAt, IsPlannedFor, IsReads, Suits};
+ghost use Rattle.mx_engine.specs.Planning.{event_planned, read_planned, rows_with_event};
+ghost use Rattle.mx_engine.specs.Planning.{rows_with_read, with_edit, with_event, with_read};
+ghost use Rattle.mx_engine.specs.Planning.{IsMadeFor, IsPlacedAt, IsPlannedFor, IsReads, Suits};
 ghost use Rattle.mx_engine.specs.Telling.{KeepsCapacity};
 ghost use Rattle.mx_engine.specs.Preparing.{IsPlanned, IsPrepared, RefusesInRange, SaysOfContent};
 
@@ -225,7 +229,8 @@ impl<R: Rows> Engine<R> {
         })
     }
 
-    // Takes the memory that the engine itself needs for an event, and plans what it sets in its room.
+    // Takes the memory that the engine itself needs for an event,
+    // and plans what it sets in its room.
     fn reserve(&mut self, alloc: Global, event: &Event) -> Result<RoomsPlan, OutOfMemory>
         ensures server { self.new.server ≡ self.old.server }
         ensures meaning { self.new.shown ≡ self.old.shown }
@@ -311,7 +316,8 @@ impl<R: Rows> Engine<R> {
         ensures capacity { IfOk result (λ plan. HasCapacity self.new.capacity plan.change) }
         ensures made { IfOk result (IsMadeFor self.new.server self.new.shown) }
         ensures suits { IfOk result
-            (λ plan. Suits self.new.server self.new.shown (Input.Edit user.now edit.now) plan.change) }
+            (λ plan.
+            Suits self.new.server self.new.shown (Input.Edit user.now edit.now) plan.change) }
         ensures in_range { RefusesInRange result }
         ensures exact { (h : History) → self.old.shown ≡ snapshot_of self.old.server h
             → IsPlanned self.old.server h (Input.Edit user.now edit.now) result }
@@ -532,7 +538,8 @@ impl<R: Rows> Engine<R> {
         self.unread.thread_at(user, room, k)
     }
 
-    /// How many events of the room are unread for the user, whatever their threads. Takes no memory.
+    /// How many events of the room are unread for the user, whatever their threads.
+    /// Takes no memory.
     pub fn room_counts(&self, user: &UserId, room: &RoomId) -> Counts
         ensures exact { (h : History) → self.now.shown ≡ snapshot_of self.now.server h
             → result ≡ room_counts_of self.now.server h user.now room.now }

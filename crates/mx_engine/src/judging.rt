@@ -33,7 +33,8 @@ pub(crate) fn notified_users(
     requires plan { plan.now ≡ record { id = room_id_of event.now; sets = sets_of event.now } }
     ensures users { IfOk result (λ users. map.from_entries users.items
         ≡ notices_in rules.now.server (rules_among rules.now.server rules.now.edited)
-        (with_sets (sets_of event.now) (room_at rooms.now.states (room_id_of event.now))) event.now) }
+        (with_sets (sets_of event.now) (room_at rooms.now.states (room_id_of event.now)))
+        event.now) }
     ensures once { IfOk result (λ users. IsDistinct bytes_eq (keys_of users.items)) }
 {
     let view = rooms.view(plan);
@@ -54,7 +55,8 @@ fn notified_in(
     requires listed { IsListed rules.now.server event.now view.now members.now }
     requires once { IsDistinct bytes_eq members.now }
     ensures users { IfOk result (λ users. map.from_entries users.items
-        ≡ notices_in rules.now.server (rules_among rules.now.server rules.now.edited) view.now event.now) }
+        ≡ notices_in rules.now.server
+        (rules_among rules.now.server rules.now.edited) view.now event.now) }
     ensures once { IfOk result (λ users. IsDistinct bytes_eq (keys_of users.items)) }
 {
     let mut users = notified_among(alloc, event, view, members, rules, scratch)?;
@@ -74,7 +76,8 @@ fn notified_among(
     scratch: &mut Scratch,
 ) -> Result<Vec<(UserId, bool)>, OutOfMemory>
     ensures { IfOk result (λ users. users.items
-        ≡ said_of (notice_in rules.now.server (rules_among rules.now.server rules.now.edited) view.now event.now) members.now) }
+        ≡ said_of (notice_in rules.now.server
+        (rules_among rules.now.server rules.now.edited) view.now event.now) members.now) }
 {
     let mut users = Vec::new(alloc);
     for user in members {
@@ -94,7 +97,8 @@ fn note(
     users: &mut Vec<(UserId, bool)>,
 ) -> Result<(), OutOfMemory>
     ensures { OnOk result (users.new.items ≡ users.old.items
-        ++ said_of (notice_in rules.now.server (rules_among rules.now.server rules.now.edited) view.now event.now)
+        ++ said_of (notice_in rules.now.server
+        (rules_among rules.now.server rules.now.edited) view.now event.now)
         (user.now ∷ [])) }
 {
     let Some(verdict) = rules.verdict(alloc, event, user, view, scratch)? else {

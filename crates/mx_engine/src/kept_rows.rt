@@ -1,4 +1,5 @@
-ghost use Rattle.std.specs.Prelude.{◌≡◌, ◌<◌, ◌||◌, ◌&&◌, ◌++◌, ◌∷◌, [], List, ℕ, if◌then◌else◌, true, false, is_ok, None, map, slice_get, All, IfNone, IfSome};
+ghost use Rattle.std.specs.Prelude.{◌≡◌, ◌<◌, ◌||◌, ◌&&◌, ◌++◌, ◌∷◌, [], List, ℕ, if◌then◌else◌};
+ghost use Rattle.std.specs.Prelude.{true, false, is_ok, None, map, slice_get, All, IfNone, IfSome};
 ghost use Rattle.std.specs.FinMap.{empty};
 ghost use Rattle.std.specs.List.{IsDistinct};
 ghost use Rattle.std.specs.Map.{keys_of, lookup};
@@ -6,7 +7,9 @@ ghost use Rattle.std.specs.Option.{option_copied};
 ghost use Rattle.std.specs.Str.{bytes_eq};
 ghost use Rattle.mx_rows.specs.Rows.{above, counts_in, with_rows};
 ghost use Rattle.mx_rows.specs.declared.thread_key.ThreadKey.{ThreadKey};
-ghost use Rattle.mx_engine.specs.KeptRows.{AreUnreadRows, AreUsersRows, has_capacity, is_users_room, is_users_thread, list_at, threads_in, unread_view};
+ghost use Rattle.mx_engine.specs.KeptRows.{AreUnreadRows, AreUsersRows, has_capacity};
+ghost use Rattle.mx_engine.specs.KeptRows.{is_users_room, is_users_thread, list_at, threads_in};
+ghost use Rattle.mx_engine.specs.KeptRows.{unread_view};
 ghost use Rattle.mx_records.specs.Snapshot.{rows_at, rows_by_thread};
 
 use crate::user_rows::UserRows;

@@ -7,7 +7,8 @@ ghost use Rattle.mx_records.specs.History.{History};
 ghost use Rattle.mx_records.specs.Normal.{IsNormal};
 ghost use Rattle.mx_records.specs.Refusing.{refusal_of_any, NamesAPosition};
 ghost use Rattle.mx_engine.specs.Planning.{Planned};
-ghost use Rattle.mx_engine.specs.Preparing.{refusal_of_length, IsPrepared, RefusesInRange, SaysOfContent};
+ghost use Rattle.mx_engine.specs.Preparing.{refusal_of_length, IsPrepared, RefusesInRange};
+ghost use Rattle.mx_engine.specs.Preparing.{SaysOfContent};
 
 use crate::error::PrepareError;
 use mx_records::{Input, Refusal, encode_input_into, is_too_long};

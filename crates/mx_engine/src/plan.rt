@@ -73,8 +73,8 @@ pub(crate) enum Change {
     Reads(ReadPlan),
 }
 
-/// An event that is to be added: its id, what it sets in its room, its place, whom it notifies, each
-/// with whether it is highlighted, and the user whose membership it changes, and not to an
+/// An event that is to be added: its id, what it sets in its room, its place, whom it notifies,
+/// each with whether it is highlighted, and the user whose membership it changes, and not to an
 /// invitation.
 #[derive(Drop)]
 pub(crate) struct EventPlan {
@@ -85,8 +85,8 @@ pub(crate) struct EventPlan {
     pub(crate) mover: Option<UserId>,
 }
 
-/// Rows that are to be dropped: those of the user in a thread of the room, or in all of its threads,
-/// at or below the position.
+/// Rows that are to be dropped: those of the user in a thread of the room, or in all of its
+/// threads, at or below the position.
 #[derive(Drop)]
 pub(crate) struct ReadPlan {
     pub(crate) user: UserId,

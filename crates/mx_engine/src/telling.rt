@@ -43,7 +43,8 @@ pub(crate) fn push_rows<R: Rows>(
     thread: &ThreadKey,
     position: u64,
 )
-    requires capacity { HasCapacityForAll unread.old.capacity room.now thread.now (keys_of users.now) }
+    requires capacity { HasCapacityForAll unread.old.capacity room.now thread.now
+        (keys_of users.now) }
     requires distinct { IsDistinct bytes_eq (keys_of users.now) }
     requires above { (u r : List ℕ) (t : ThreadKey)
         → All (λ row. row.position < position) (list_at unread.old.unread u r t) }

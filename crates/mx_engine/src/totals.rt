@@ -7,8 +7,8 @@ ghost use Rattle.mx_engine.specs.Totals.{totals};
 use mx_records::{Counts, MOST_INPUTS};
 use mx_rows::Rows;
 
-/// How many rows all threads have, of the first 1,000,000, and how many of these are highlighted. No
-/// room of a history has more threads with rows, since each has an event of its own.
+/// How many rows all threads have, of the first 1,000,000, and how many of these are highlighted.
+/// No room of a history has more threads with rows, since each has an event of its own.
 pub(crate) fn totals<R: Rows>(rows: &R) -> Counts
     requires { (t : ThreadKey) → length (R.list rows.now t) ≤ most_inputs }
     ensures { result ≡ totals (R.list rows.now)

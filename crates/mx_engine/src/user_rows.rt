@@ -1,4 +1,5 @@
-ghost use Rattle.std.specs.Prelude.{◌≡◌, ◌<◌, ◌||◌, ◌&&◌, ◌++◌, ◌∷◌, [], List, ℕ, if◌then◌else◌, true, false, is_ok, None, All, IfNone, IfOk, IfSome};
+ghost use Rattle.std.specs.Prelude.{◌≡◌, ◌<◌, ◌||◌, ◌&&◌, ◌++◌, ◌∷◌, [], List, ℕ, if◌then◌else◌};
+ghost use Rattle.std.specs.Prelude.{true, false, is_ok, None, All, IfNone, IfOk, IfSome};
 ghost use Rattle.std.specs.FinMap.{empty};
 ghost use Rattle.std.specs.List.{IsDistinct};
 ghost use Rattle.std.specs.Map.{keys_of, lookup};
@@ -7,7 +8,8 @@ ghost use Rattle.std.specs.Str.{bytes_eq};
 ghost use Rattle.mx_rows.specs.Rows.{above, with_rows};
 ghost use Rattle.mx_rows.specs.Threads.{same_thread};
 ghost use Rattle.mx_rows.specs.declared.thread_key.ThreadKey.{ThreadKey};
-ghost use Rattle.mx_engine.specs.KeptRows.{AreUserRows, has_capacity_in, is_thread, list_in, rows_in, user_view};
+ghost use Rattle.mx_engine.specs.KeptRows.{AreUserRows, has_capacity_in, is_thread, list_in};
+ghost use Rattle.mx_engine.specs.KeptRows.{rows_in, user_view};
 ghost use Rattle.mx_records.specs.Snapshot.{rows_by_thread};
 
 use mx_json::{OutOfMemory, RoomId};

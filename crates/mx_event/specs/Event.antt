@@ -1,5 +1,7 @@
--- What an event of a room is and what is read off it: the fields of the Client-Server API's 'Room event format', in a profile of our own.
-use Rattle.std.specs.Prelude.{◌≡◌, ℕ, nat_le, Bool, true, false, if◌then◌else◌, List, [], ◌∷◌, length, codes, Option, Some, None, is_none, is_some, option_map, unwrap_or, Result, Ok, Err, MatchBool, IsAscii}
+-- What an event of a room is and what is read off it: the fields of the Client-Server API's 'Room event format',
+-- in a profile of our own.
+use Rattle.std.specs.Prelude.{◌≡◌, ℕ, nat_le, Bool, true, false, if◌then◌else◌, List, [], ◌∷◌, length, codes, Option}
+use Rattle.std.specs.Prelude.{Some, None, is_none, is_some, option_map, unwrap_or, Result, Ok, Err, MatchBool, IsAscii}
 use Rattle.std.specs.Option.{option_map_or}
 use Rattle.std.specs.Str.{bytes_eq, IsNotAscii}
 use Rattle.mx_json.specs.declared.value.Json.{Json, Null}

@@ -4,7 +4,8 @@ use Rattle.mx_json.specs.declared.value.Json.{Json}
 use Rattle.mx_json.specs.Json.{member}
 use Rattle.mx_event.specs.declared.places.ContentPlaces.{ContentPlaces}
 use Rattle.mx_event.specs.declared.property.Property.{Property}
-use Rattle.mx_event.specs.declared.property.Property.TheVariants.{Kind, StateKey, Body, MessageType, Membership, MentionedUsers, MentionsRoom, RelationType}
+use Rattle.mx_event.specs.declared.property.Property.TheVariants.{Kind, StateKey, Body, MessageType, Membership}
+use Rattle.mx_event.specs.declared.property.Property.TheVariants.{MentionedUsers, MentionsRoom, RelationType}
 use Rattle.mx_event.specs.Place.{member_placed}
 
 -- the path of a property
@@ -31,6 +32,9 @@ pub record AreContentPlaces (content : Json) (places : ContentPlaces) : Type 0 w
   pub body_is : member_placed places.body content ≡ member (codes "body") content
   pub message_type_is : member_placed places.message_type content ≡ member (codes "msgtype") content
   pub membership_is : member_placed places.membership content ≡ member (codes "membership") content
-  pub mentioned_users_are : placed_within places.mentions places.mentioned_users content ≡ member_within (codes "m.mentions") (codes "user_ids") content
-  pub mentions_room_is : placed_within places.mentions places.mentions_room content ≡ member_within (codes "m.mentions") (codes "room") content
-  pub relation_type_is : placed_within places.relates_to places.relation_type content ≡ member_within (codes "m.relates_to") (codes "rel_type") content
+  pub mentioned_users_are : placed_within places.mentions places.mentioned_users content
+      ≡ member_within (codes "m.mentions") (codes "user_ids") content
+  pub mentions_room_is : placed_within places.mentions places.mentions_room content
+      ≡ member_within (codes "m.mentions") (codes "room") content
+  pub relation_type_is : placed_within places.relates_to places.relation_type content
+      ≡ member_within (codes "m.relates_to") (codes "rel_type") content

@@ -4,7 +4,9 @@ ghost use Rattle.std.specs.Str.{IsNotAscii};
 ghost use Rattle.mx_json.specs.Gives.{Gives};
 ghost use Rattle.mx_json.specs.Json.{is_valid, text_at};
 ghost use Rattle.mx_json.specs.Path.{look};
-ghost use Rattle.mx_event.specs.Event.{body_of, content_of, event_id_of, has_mentions, is_event, kind_of, membership_of, read_event, related_by, relation_of, room_id_of, sender_of, state_key_of, told_membership};
+ghost use Rattle.mx_event.specs.Event.{body_of, content_of, event_id_of, has_mentions, is_event};
+ghost use Rattle.mx_event.specs.Event.{kind_of, membership_of, read_event, related_by, relation_of};
+ghost use Rattle.mx_event.specs.Event.{room_id_of, sender_of, state_key_of, told_membership};
 ghost use Rattle.mx_event.specs.Property.{path_of};
 
 use crate::error::EventError;
@@ -191,8 +193,8 @@ impl Event {
         }
     }
 
-    /// The state key and the membership of a state event `m.room.member`: `content.membership` where
-    /// that is a text, else `leave`. `None` exactly for other events.
+    /// The state key and the membership of a state event `m.room.member`: `content.membership`
+    /// where that is a text, else `leave`. `None` exactly for other events.
     #[tactic(auto, unfolding(crate::specs::Event::membership_of))]
     pub fn membership(&self) -> Option<(&str, &str)>
         ensures { option_map (λ told. (told.0.now, told.1.now)) result ≡ membership_of self.now }

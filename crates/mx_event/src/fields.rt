@@ -2,7 +2,9 @@ ghost use Rattle.std.specs.Prelude.{◌≡◌, true};
 ghost use Rattle.mx_json.specs.Gives.{Gives};
 ghost use Rattle.mx_json.specs.Ids.{is_event_id, is_room_id, is_user_id};
 ghost use Rattle.mx_json.specs.Json.{is_valid};
-ghost use Rattle.mx_event.specs.Event.{checked, event_id_of, fields_after_the_ids, first_wrong, has_content, has_kind, has_state_key_or_none, is_short_text, room_id_of, sender_of};
+ghost use Rattle.mx_event.specs.Event.{checked, event_id_of, fields_after_the_ids, first_wrong};
+ghost use Rattle.mx_event.specs.Event.{has_content, has_kind, has_state_key_or_none, is_short_text};
+ghost use Rattle.mx_event.specs.Event.{room_id_of, sender_of};
 
 use crate::error::{EventError, EventField};
 use mx_json::{EventId, IdError, Json, RoomId, UserId};

@@ -1,5 +1,6 @@
 -- How many characters the folding of a text of so many bytes has at most.
-use Rattle.std.proofs.Common.{ℕ, ◌*◌, ◌≤◌, List, [], ◌∷◌, length, encode_utf8, encode_utf8_all, chars, IsUtf8, inl, inr, ap, ◌∙◌, arith, length-append}
+use Rattle.std.proofs.Common.{ℕ, ◌*◌, ◌≤◌, List, [], ◌∷◌, length, encode_utf8, encode_utf8_all, chars, IsUtf8, inl, inr}
+use Rattle.std.proofs.Common.{ap, ◌∙◌, arith, length-append}
 use Rattle.std.proofs.lemmas.Bool.{cases_lt}
 use Rattle.std.proofs.lemmas.Bool.Decides.{nat_tests}
 use Rattle.std.proofs.lemmas.Str.{length-encode, encodes-chars}

@@ -1,5 +1,7 @@
 -- Facts of segments and of where a pattern leads.
-use Rattle.std.proofs.Common.{◌≡◌, ℕ, zero, suc, ◌+◌, ◌<◌, ◌≤◌, ◌==◌, ◌≢◌, true, false, List, [], ◌∷◌, ◌++◌, length, drop, get_or, slice_get, Option, Some, None, IsTrue, MatchOption, ◌↔◌, refl, sym, ap, subst, ◌∙◌, inl, inr, add-one, arith}
+use Rattle.std.proofs.Common.{◌≡◌, ℕ, zero, suc, ◌+◌, ◌<◌, ◌≤◌, ◌==◌, ◌≢◌, true, false, List, [], ◌∷◌, ◌++◌, length}
+use Rattle.std.proofs.Common.{drop, get_or, slice_get, Option, Some, None, IsTrue, MatchOption, ◌↔◌, refl, sym, ap}
+use Rattle.std.proofs.Common.{subst, ◌∙◌, inl, inr, add-one, arith}
 use Rattle.std.proofs.lemmas.Bool.{cases_lt}
 use Rattle.std.proofs.lemmas.Bool.Decides.{nat_tests}
 use Rattle.std.proofs.lemmas.List.{drop_more}
@@ -32,22 +34,28 @@ TakesOption o wanted = MatchOption o ⊥ (λ here. IsTrue (takes wanted here))
 pub TakesAt-found : (text : List ℕ) (wanted k : ℕ) → slice_get text k ≡ Some wanted → TakesAt text wanted k
 TakesAt-found text wanted k e = rw e (takes-same wanted)
 
-found : (o : Option ℕ) (wanted : ℕ) → wanted ≢ question → MatchOption o ⊥ (λ here. IsTrue (takes wanted here)) → o ≡ Some wanted
+found : (o : Option ℕ) (wanted : ℕ) → wanted ≢ question → MatchOption o ⊥ (λ here. IsTrue (takes wanted here))
+    → o ≡ Some wanted
 found None wanted other h = absurd h
 found (Some here) wanted other h = ap Some (sym (takes-plain wanted here other h))
 
 -- any other character takes itself alone
-pub TakesAt-other : (text : List ℕ) (wanted k : ℕ) → wanted ≢ question → TakesAt text wanted k → slice_get text k ≡ Some wanted
+pub TakesAt-other : (text : List ℕ) (wanted k : ℕ) → wanted ≢ question → TakesAt text wanted k
+    → slice_get text k ≡ Some wanted
 TakesAt-other text wanted k other h = found (slice_get text k) wanted other h
 
 -- one character of the segment more
-pub FitsAt-open : (text segment : List ℕ) (i d k : ℕ) → i < length segment → FitsAt text (drop i segment) k → TakesAt text (get_or segment i d) k × FitsAt text (drop (i + 1) segment) (k + 1)
+pub FitsAt-open : (text segment : List ℕ) (i d k : ℕ) → i < length segment → FitsAt text (drop i segment) k
+    → TakesAt text (get_or segment i d) k × FitsAt text (drop (i + 1) segment) (k + 1)
 FitsAt-open text segment i d k h agrees = rw (drop_more segment i d h) at agrees
 
-pub FitsAt-close : (text segment : List ℕ) (i d k : ℕ) → i < length segment → TakesAt text (get_or segment i d) k → FitsAt text (drop (i + 1) segment) (k + 1) → FitsAt text (drop i segment) k
+pub FitsAt-close : (text segment : List ℕ) (i d k : ℕ) → i < length segment → TakesAt text (get_or segment i d) k
+    → FitsAt text (drop (i + 1) segment) (k + 1) → FitsAt text (drop i segment) k
 FitsAt-close text segment i d k h here rest = rw (drop_more segment i d h) (here, rest)
 
-pub FitsAt-step : (text segment : List ℕ) (i d place : ℕ) (All : Type 0) → i < length segment → All ↔ FitsAt text (drop i segment) (place + i) → TakesAt text (get_or segment i d) (place + i) → All ↔ FitsAt text (drop (i + 1) segment) (place + (i + 1))
+pub FitsAt-step : (text segment : List ℕ) (i d place : ℕ) (All : Type 0) → i < length segment
+    → All ↔ FitsAt text (drop i segment) (place + i) → TakesAt text (get_or segment i d) (place + i)
+    → All ↔ FitsAt text (drop (i + 1) segment) (place + (i + 1))
 FitsAt-step text segment i d place All h same here =
     let e : place + (i + 1) ≡ place + i + 1 = omega arith in
     rw e (

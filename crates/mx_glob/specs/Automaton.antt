@@ -1,5 +1,6 @@
 -- How a segment without `?` is looked for without going back in the text: ours, after Knuth, Morris and Pratt.
-use Rattle.std.specs.Prelude.{◌≡◌, ℕ, ◌+◌, ◌-◌, ◌<◌, ◌≤◌, Bool, List, length, Option, Some, None, slice_get, slice_index, IsTrue}
+use Rattle.std.specs.Prelude.{◌≡◌, ℕ, ◌+◌, ◌-◌, ◌<◌, ◌≤◌, Bool, List, length, Option, Some, None, slice_get}
+use Rattle.std.specs.Prelude.{slice_index, IsTrue}
 use Rattle.mx_glob.specs.Glob.{question}
 use Rattle.mx_glob.specs.Words.{is_outside, character_before}
 
@@ -26,17 +27,21 @@ pub record IsNext (segment : List ℕ) (size here next : ℕ) : Type 0 where
   pub most : next ≤ size + 1
   pub last : (i : ℕ) → i + 1 ≡ next → slice_get segment i ≡ Some here
   pub others : (i : ℕ) → i + 1 < next → slice_get segment (size + 1 - next + i) ≡ slice_get segment i
-  pub longest : (t : ℕ) → next ≤ t → t ≤ size → StandsAt segment segment t (size - t) → slice_get segment t ≡ Some here → ⊥
+  pub longest : (t : ℕ) → next ≤ t → t ≤ size → StandsAt segment segment t (size - t)
+      → slice_get segment t ≡ Some here → ⊥
 
--- The segment stands in the text at a place, each character as itself, and where that is asked for a word begins there, and one ends behind it.
+-- The segment stands in the text at a place, each character as itself, and where that is asked for a word begins there,
+-- and one ends behind it.
 pub record IsEdged (text segment : List ℕ) (begins ends : Bool) (k : ℕ) : Type 0 where
   pub in_text : k + length segment ≤ length text
   pub stands : StandsAt text segment (length segment) k
   pub begins_word : IsTrue begins → IsTrue (is_outside (character_before text k))
   pub ends_word : IsTrue ends → IsTrue (is_outside (slice_get text (k + length segment)))
 
--- How far a search has come that goes through the text once: so many characters of the segment stand before this place, no earlier place serves, and where words count, the character before is known.
-pub record IsReached (text segment : List ℕ) (begins ends : Bool) (from place size : ℕ) (before : Option ℕ) : Type 0 where
+-- How far a search has come that goes through the text once: so many characters of the segment stand before this place,
+-- no earlier place serves, and where words count, the character before is known.
+pub record IsReached (text segment : List ℕ) (begins ends : Bool) (from place size : ℕ)
+    (before : Option ℕ) : Type 0 where
   pub low : from + size ≤ place
   pub high : place ≤ length text
   pub most : size ≤ length segment
@@ -48,7 +53,8 @@ pub record IsReached (text segment : List ℕ) (begins ends : Bool) (from place 
 abbrev pub IsNowhere : List ℕ → List ℕ → Bool → Bool → ℕ → Type 0
 IsNowhere text segment begins ends from = (j : ℕ) → from ≤ j → IsEdged text segment begins ends j → ⊥
 
--- How many characters a search has passed that began at a place: up to the end of the segment that it found, or of the text.
+-- How many characters a search has passed that began at a place:
+-- up to the end of the segment that it found, or of the text.
 abbrev pub passed : ℕ → ℕ → ℕ → Option ℕ → ℕ
 passed size past from None = past - from
 passed size past from (Some k) = k + size - from

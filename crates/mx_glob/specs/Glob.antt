@@ -1,4 +1,5 @@
--- When a glob pattern matches a text, over the characters of both (Client-Server API v1.11, "Conditions for push rules", event_match).
+-- When a glob pattern matches a text, over the characters of both (Client-Server API v1.11,
+-- "Conditions for push rules", event_match).
 use Rattle.std.specs.Prelude.{◌≡◌, ℕ, ◌≤◌, ◌==◌, List, [], ◌∷◌, drop, length, MatchBool}
 
 -- The character `*`.

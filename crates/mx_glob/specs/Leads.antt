@@ -1,5 +1,6 @@
 -- How the search goes through a text: ours. A segment is a part of a pattern between stars.
-use Rattle.std.specs.Prelude.{◌≡◌, ℕ, ◌+◌, ◌-◌, ◌<◌, ◌≤◌, ◌==◌, Bool, false, ◌||◌, List, [], ◌∷◌, length, Option, Some, None, slice_get, slice_range, IsTrue, MatchBool, MatchOption}
+use Rattle.std.specs.Prelude.{◌≡◌, ℕ, ◌+◌, ◌-◌, ◌<◌, ◌≤◌, ◌==◌, Bool, false, ◌||◌, List, [], ◌∷◌, length, Option, Some}
+use Rattle.std.specs.Prelude.{None, slice_get, slice_range, IsTrue, MatchBool, MatchOption}
 use Rattle.mx_glob.specs.Glob.{star, question}
 use Rattle.mx_glob.specs.Words.{is_outside, character_before, IsWordAt}
 use Rattle.mx_glob.specs.declared.rest.End.{End}

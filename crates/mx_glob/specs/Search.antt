@@ -1,5 +1,6 @@
 -- How a search for a name skips places: ours, after Horspool.
-use Rattle.std.specs.Prelude.{◌≡◌, ℕ, ◌+◌, ◌-◌, ◌*◌, ◌<◌, ◌≤◌, ◌%◌, ◌==◌, false, List, [], ◌∷◌, length, Some, slice_get, slice_index}
+use Rattle.std.specs.Prelude.{◌≡◌, ℕ, ◌+◌, ◌-◌, ◌*◌, ◌<◌, ◌≤◌, ◌%◌, ◌==◌, false, List, [], ◌∷◌, length, Some, slice_get}
+use Rattle.std.specs.Prelude.{slice_index}
 use Rattle.mx_glob.specs.Glob.{star, question}
 use Rattle.mx_glob.specs.Leads.{IsNameAt}
 use Rattle.mx_glob.specs.declared.search.Tried.{Tried}
@@ -40,9 +41,12 @@ pub record IsName (pattern : List ℕ) : Type 0 where
   pub some : 0 < length pattern
   pub literal : IsLiteral pattern
 
--- What the try of a place told of it, and how much was read since a search began: up to two characters for each place that is ruled out, or at most the name's length and one more.
+-- What the try of a place told of it, and how much was read since a search began:
+-- up to two characters for each place that is ruled out, or at most the name's length and one more.
 abbrev pub IsTried : List ℕ → List ℕ → ℕ → ℕ → ℕ → ℕ → Tried → Type 0
 IsTried text name place start old new Word = (old ≤ new) × IsNameAt text name place × (new ≤ old + length name + 1)
-IsTried text name place start old new Ahead = (old ≤ new) × (IsNameAt text name place → ⊥) × (new ≤ start + 2 * (place + 1))
+IsTried text name place start old new Ahead =
+    (old ≤ new) × (IsNameAt text name place → ⊥) × (new ≤ start + 2 * (place + 1))
 IsTried text name place start old new Behind =
-    (old ≤ new) × (IsNameAt text name place → ⊥) × (new ≤ old + length name + 1) × (slice_get text place ≡ slice_get name 0)
+    (old ≤ new) × (IsNameAt text name place → ⊥) × (new ≤ old + length name + 1)
+    × (slice_get text place ≡ slice_get name 0)

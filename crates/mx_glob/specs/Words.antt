@@ -1,5 +1,7 @@
--- When a glob pattern or a text is a word of a text (Client-Server API v1.11, "Conditions for push rules", event_match on content.body, contains_display_name).
-use Rattle.std.specs.Prelude.{◌≡◌, ℕ, zero, suc, ◌≤◌, ◌==◌, Bool, true, not, ◌||◌, List, length, Option, Some, None, slice_get, slice_range, IsTrue}
+-- When a glob pattern or a text is a word of a text (Client-Server API v1.11, "Conditions for push rules",
+-- event_match on content.body, contains_display_name).
+use Rattle.std.specs.Prelude.{◌≡◌, ℕ, zero, suc, ◌≤◌, ◌==◌, Bool, true, not, ◌||◌, List, length, Option, Some, None}
+use Rattle.std.specs.Prelude.{slice_get, slice_range, IsTrue}
 use Rattle.std.specs.Char.{is_ascii_alphanumeric}
 use Rattle.mx_glob.specs.Glob.{Matches}
 

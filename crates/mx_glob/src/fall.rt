@@ -14,9 +14,9 @@ pub(crate) fn make_once(segment: &[char], falls: &mut [usize], is_made: bool)
     }
 }
 
-/// Fills the table of falls of a segment: for each of its beginnings, from that of one character on,
-/// how long the longest shorter beginning is with which it ends. It is kept apart from the search,
-/// which makes the table once at most.
+/// Fills the table of falls of a segment: for each of its beginnings, from that of one character
+/// on, how long the longest shorter beginning is with which it ends. It is kept apart from the
+/// search, which makes the table once at most.
 #[inline(never)]
 fn make_falls(segment: &[char], falls: &mut [usize])
     requires some { 0 < length segment.now }

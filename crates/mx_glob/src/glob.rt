@@ -87,9 +87,9 @@ impl Glob {
 
     /// Whether the glob matches the whole value. It takes no memory. With p characters of the
     /// folded pattern and v of the value it reads at most (p + 1)(v + 1) characters, and at most
-    /// 2(v + 1) + p where the pattern has no `?`: each call of `Folded::at` on the value counts, and
-    /// the pattern is read once, into the scratch. A pattern without `*` and `?` isn't copied: there
-    /// each call of `Folded::at` on it counts too.
+    /// 2(v + 1) + p where the pattern has no `?`: each call of `Folded::at` on the value counts,
+    /// and the pattern is read once, into the scratch. A pattern without `*` and `?` isn't copied:
+    /// there each call of `Folded::at` on it counts too.
     pub fn whole(&self, value: &Folded, scratch: &mut Scratch, meter: &mut Meter) -> bool
         ensures matches { IsTrue result ↔ Matches self.now value.now }
         ensures reads { RisesAtMost
@@ -105,8 +105,8 @@ impl Glob {
     /// Whether the glob matches a word of the value: some part of it, the empty one included, with
     /// no character of `A-Z a-z 0-9 _` just before and just after. It takes no memory. With p
     /// characters of the folded pattern and v of the value it reads at most (p + 1)(v + 1), and at
-    /// most 2(v + 1) + p where the pattern has no `?`: each call of `Folded::at` on the value counts,
-    /// and the pattern is read once, into the scratch.
+    /// most 2(v + 1) + p where the pattern has no `?`: each call of `Folded::at` on the value
+    /// counts, and the pattern is read once, into the scratch.
     pub fn word(&self, value: &Folded, scratch: &mut Scratch, meter: &mut Meter) -> bool
         ensures matches { IsTrue result ↔ WordMatches self.now value.now }
         ensures reads { RisesAtMost

@@ -3,8 +3,8 @@
 //!
 //! Pattern and text are folded first (`mx_json::Folded`). `*` matches any number of characters, `?`
 //! one, and every other character itself (Client-Server API v1.11, "Conditions for push rules").
-//! Matching takes no memory: `Scratch` has it, for every glob, and keeps the foldings of the texts that
-//! were matched last.
+//! Matching takes no memory: `Scratch` has it, for every glob, and keeps the foldings of the texts
+//! that were matched last.
 #![tactic(auto)]
 
 mod error;

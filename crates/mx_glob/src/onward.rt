@@ -1,4 +1,5 @@
-ghost use Rattle.std.specs.Prelude.{◌≡◌, ℕ, ◌+◌, ◌-◌, ◌^◌, ◌<◌, ◌≤◌, ◌↔◌, length, slice_get, Some, None, IfSome, IfNone, IsTrue, MatchOption};
+ghost use Rattle.std.specs.Prelude.{◌≡◌, ℕ, ◌+◌, ◌-◌, ◌^◌, ◌<◌, ◌≤◌, ◌↔◌, length, slice_get, Some};
+ghost use Rattle.std.specs.Prelude.{None, IfSome, IfNone, IsTrue, MatchOption};
 ghost use Rattle.std.specs.ControlFlow.{MatchControlFlow};
 ghost use Rattle.mx_json.specs.Folded.{RisesAtMost};
 ghost use Rattle.mx_glob.specs.Automaton.{AreFalls, IsExact, IsEdged, IsReached, IsNowhere, passed};
@@ -59,7 +60,8 @@ impl<'a> Wanted<'a> {
         })
     }
 
-    /// Where nothing of the segment stands, goes on to behind the next place of its first character.
+    /// Where nothing of the segment stands,
+    /// goes on to behind the next place of its first character.
     fn enter(
         &self,
         value: &Folded,
@@ -222,8 +224,8 @@ impl<'a> Wanted<'a> {
         }
     }
 
-    /// The character before what stands of the segment after `here`, with which it doesn't go on. It
-    /// is known where the segment has to begin at the start of a word.
+    /// The character before what stands of the segment after `here`, with which it doesn't go on.
+    /// It is known where the segment has to begin at the start of a word.
     fn before_next(&self, size: usize, next: usize, here: char) -> Option<char>
         requires { next ≤ size }
         ensures none { IsTrue self.now.begins → next ≡ 0 → result ≡ Some here }
@@ -314,8 +316,8 @@ impl<'a> Wanted<'a> {
     }
 
     /// Goes on through the value as long as something of the segment stands, up to the first place
-    /// that serves, if any, and gives the meter back. It is kept apart from its caller, and the meter
-    /// is its own, so that all that its loop needs stays in registers.
+    /// that serves, if any, and gives the meter back. It is kept apart from its caller, and the
+    /// meter is its own, so that all that its loop needs stays in registers.
     #[inline(never)]
     fn follow(
         &self,
@@ -460,8 +462,8 @@ pub(crate) fn word_of_name(
 }
 
 /// The first place from `from` on at which the character stands, and the character before it, where
-/// the one before `from` is known. It is kept apart from its caller, so that all that its loop needs
-/// stays in registers.
+/// the one before `from` is known. It is kept apart from its caller, so that all that its loop
+/// needs stays in registers.
 #[inline(never)]
 fn scan(
     wanted: char,
@@ -473,7 +475,8 @@ fn scan(
     requires in_text { from ≤ length value.now }
     requires fits { length value.now < 2 ^ 61 }
     ensures found { IfSome result
-        (λ found. (from ≤ found.0) × (found.0 < length value.now) × (slice_get value.now found.0 ≡ Some wanted)
+        (λ found. (from ≤ found.0) × (found.0 < length value.now)
+        × (slice_get value.now found.0 ≡ Some wanted)
         × ((j : ℕ) → from ≤ j → j < found.0 → slice_get value.now j ≡ Some wanted → ⊥)) }
     ensures nowhere { IfNone result ((j : ℕ) → from ≤ j → slice_get value.now j ≡ Some wanted → ⊥) }
     ensures before { before ≡ character_before value.now from

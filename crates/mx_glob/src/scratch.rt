@@ -5,8 +5,8 @@ use mx_json::OutOfMemory;
 use std::alloc::Global;
 
 /// What matching works in: room for every glob, and the texts that were matched last with their
-/// foldings, so that a text that is asked about again isn't folded again. It keeps eight texts of at
-/// most 4,096 bytes, the last longer one, and the last name.
+/// foldings, so that a text that is asked about again isn't folded again. It keeps eight texts of
+/// at most 4,096 bytes, the last longer one, and the last name.
 #[derive(Drop)]
 pub struct Scratch {
     pub(crate) held: Held,

@@ -1,4 +1,5 @@
-ghost use Rattle.std.specs.Prelude.{◌≡◌, ℕ, ◌+◌, ◌-◌, ◌*◌, ◌<◌, ◌≤◌, ◌^◌, ◌↔◌, List, length, slice_get, slice_range, Some, IsTrue, IfSome, unwrap_or};
+ghost use Rattle.std.specs.Prelude.{◌≡◌, ℕ, ◌+◌, ◌-◌, ◌*◌, ◌<◌, ◌≤◌, ◌^◌, ◌↔◌, List, length};
+ghost use Rattle.std.specs.Prelude.{slice_get, slice_range, Some, IsTrue, IfSome, unwrap_or};
 ghost use Rattle.mx_json.specs.Folded.{RisesAtMost};
 ghost use Rattle.mx_glob.specs.Leads.{IsNameAt, tried};
 ghost use Rattle.mx_glob.specs.Search.{EndsAt, NoneEnds, IsTried};
@@ -184,15 +185,16 @@ impl<'a> Search<'a> {
         value.at(place, meter) == Some(self.first)
     }
 
-    /// Goes through the value once, from behind the place that was tried last, where the name's first
-    /// character stands.
+    /// Goes through the value once, from behind the place that was tried last, where the name's
+    /// first character stands.
     fn go_on(&self, falls: &mut [usize], value: &Folded, end: usize, meter: &mut Meter) -> bool
         requires some { 0 < length self.now }
         requires room { length self.now ≤ length falls.old }
         requires long { length self.now ≤ end + 1 }
         requires in_text { end < length value.now }
         requires fits { length value.now < 2 ^ 61 }
-        requires first_same { slice_get value.now (end + 1 - length self.now) ≡ slice_get self.now 0 }
+        requires first_same { slice_get value.now (end + 1 - length self.now)
+            ≡ slice_get self.now 0 }
         requires none { NoneEnds value.now self.now 0 (end + 1) }
         ensures word { IsTrue result ↔ HasWord self.now value.now }
         ensures never_falls { meter.old ≤ meter.new }

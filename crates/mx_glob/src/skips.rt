@@ -1,4 +1,5 @@
-ghost use Rattle.std.specs.Prelude.{◌≡◌, ◌-◌, ◌%◌, ◌<◌, ◌==◌, ◌↔◌, false, length, replicate, slice_get, IsTrue, IfSome};
+ghost use Rattle.std.specs.Prelude.{◌≡◌, ◌-◌, ◌%◌, ◌<◌, ◌==◌, ◌↔◌, false, length, replicate};
+ghost use Rattle.std.specs.Prelude.{slice_get, IsTrue, IfSome};
 ghost use Rattle.mx_glob.specs.Automaton.{IsExact};
 ghost use Rattle.mx_glob.specs.Glob.{star, question};
 ghost use Rattle.mx_glob.specs.Search.{AreSkips, IsLiteral};

@@ -1,8 +1,10 @@
-ghost use Rattle.std.specs.Prelude.{◌≡◌, ℕ, ◌+◌, ◌-◌, ◌*◌, ◌^◌, ◌<◌, ◌≤◌, ◌==◌, ◌↔◌, false, length, drop, min, slice_get, slice_range, Some, IfOk, IfSome, IsTrue};
+ghost use Rattle.std.specs.Prelude.{◌≡◌, ℕ, ◌+◌, ◌-◌, ◌*◌, ◌^◌, ◌<◌, ◌≤◌, ◌==◌, ◌↔◌, false, length};
+ghost use Rattle.std.specs.Prelude.{drop, min, slice_get, slice_range, Some, IfOk, IfSome, IsTrue};
 ghost use Rattle.mx_json.specs.Folded.{folded, RisesAtMost};
 ghost use Rattle.mx_glob.specs.Automaton.{IsExact, passed};
 ghost use Rattle.mx_glob.specs.Glob.{question};
-ghost use Rattle.mx_glob.specs.Leads.{FitsAt, TakesFirst, IsWordPlace, IsNameAt, IsFirstFrom, tried};
+ghost use Rattle.mx_glob.specs.Leads.{FitsAt, TakesFirst, IsWordPlace, IsNameAt, IsFirstFrom};
+ghost use Rattle.mx_glob.specs.Leads.{tried};
 ghost use Rattle.mx_glob.specs.Words.{is_outside, character_before, HasWord};
 ghost use Rattle.mx_glob.specs.declared.held.TheConstants.{MOST_CHARACTERS};
 ghost use Rattle.mx_glob.specs.declared.word.TheConstants.{FEW_CHARACTERS};
@@ -128,7 +130,8 @@ fn next_place(
 ) -> Option<usize>
     requires in_order { from ≤ past }
     requires fits { past < 2 ^ 62 }
-    ensures first { IsFirstFrom (λ k. (k < past) × (slice_get value.now k ≡ Some wanted)) from result }
+    ensures first { IsFirstFrom (λ k. (k < past)
+        × (slice_get value.now k ≡ Some wanted)) from result }
     ensures reads { RisesAtMost (tried from past result) meter.old meter.new }
 {
     let mut counted = mem::replace(meter, Meter::new());
@@ -191,8 +194,8 @@ fn find_at_each(segment: &[char], value: &Folded, whole: bool, meter: &mut Meter
     }
 }
 
-/// Whether a place serves, whose character and the one before it are known. The word's end is looked
-/// at before the segment: so a segment of `?` alone is gone through once.
+/// Whether a place serves, whose character and the one before it are known. The word's end is
+/// looked at before the segment: so a segment of `?` alone is gone through once.
 fn is_word_place(
     segment: &[char],
     value: &Folded,
@@ -377,9 +380,9 @@ fn held_word(name: &[char], falls: &mut [usize], value: &Folded, meter: &mut Met
     has_word(name, falls, value, meter)
 }
 
-/// The same as `word_literal`, on the foldings of a name and of a text, which the scratch keeps: the
-/// name apart from the texts. Here the second bound holds for every name: the scratch makes room for
-/// a longer one.
+/// The same as `word_literal`, on the foldings of a name and of a text, which the scratch keeps:
+/// the name apart from the texts. Here the second bound holds for every name: the scratch makes
+/// room for a longer one.
 ///
 /// # Errors
 ///

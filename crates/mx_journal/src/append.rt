@@ -1,5 +1,6 @@
 //! Adding one record.
-ghost use Rattle.std.specs.Prelude.{◌≡◌, ◌+◌, ◌<◌, ◌≤◌, ◌^◌, List, [], ◌∷◌, ◌++◌, ℕ, length, IsOk, OnOk, IfSome};
+ghost use Rattle.std.specs.Prelude.{◌≡◌, ◌+◌, ◌<◌, ◌≤◌, ◌^◌, List, [], ◌∷◌, ◌++◌, ℕ, length, IsOk};
+ghost use Rattle.std.specs.Prelude.{OnOk, IfSome};
 ghost use Rattle.mx_outside.specs.Budget.{CoversCalls, SpendsCalls};
 ghost use Rattle.mx_outside.specs.Disk.{Only, LeavesOnly, CountsFaults};
 ghost use Rattle.mx_journal.specs.Image.{IsPayload, StandsForEither};

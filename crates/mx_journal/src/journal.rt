@@ -1,11 +1,15 @@
-ghost use Rattle.std.specs.Prelude.{◌≡◌, ◌≢◌, ◌+◌, ◌^◌, ◌<◌, ◌≤◌, ◌↔◌, ◌⊎◌, [], ◌++◌, ◌∷◌, List, ℕ, length, take, drop, true, false, IsOk, IsErr, OnOk, OnErr, IfOk, IfErr, IfSome, MatchResult};
+ghost use Rattle.std.specs.Prelude.{◌≡◌, ◌≢◌, ◌+◌, ◌^◌, ◌<◌, ◌≤◌, ◌↔◌, ◌⊎◌, [], ◌++◌, ◌∷◌, List, ℕ};
+ghost use Rattle.std.specs.Prelude.{length, take, drop, true, false, IsOk, IsErr, OnOk, OnErr};
+ghost use Rattle.std.specs.Prelude.{IfOk, IfErr, IfSome, MatchResult};
 ghost use Rattle.mx_outside.specs.Told.{Rose};
 ghost use Rattle.mx_outside.specs.Budget.{CoversCalls, SpendsCalls};
 ghost use Rattle.mx_outside.specs.Disk.{Only, LeavesOnly};
-ghost use Rattle.mx_journal.specs.Image.{header, empty_journal, payload_limit, StandsForPayloads, StandsForEither};
+ghost use Rattle.mx_journal.specs.Image.{header, empty_journal, payload_limit, StandsForPayloads};
+ghost use Rattle.mx_journal.specs.Image.{StandsForEither};
 ghost use Rattle.mx_journal.specs.Fault.{LacksHeader, IsFaultyGate, IsNotAJournalAt};
 ghost use Rattle.mx_journal.specs.Calls.{OnlyReads, CountsDiskFaults};
-ghost use Rattle.mx_journal.specs.Journal.{IsLongOrEmpty, HasRead, HasClosedGate, LeavesAlike, Rests};
+ghost use Rattle.mx_journal.specs.Journal.{IsLongOrEmpty, HasRead, HasClosedGate, LeavesAlike};
+ghost use Rattle.mx_journal.specs.Journal.{Rests};
 ghost use Rattle.mx_journal.specs.NextRecord.{Found, BeginsWith, phase_after_reading};
 ghost use Rattle.mx_journal.specs.Opening.{IsLeftByOpening, disk_after};
 

@@ -1,5 +1,6 @@
 //! Making a journal of what a disk holds.
-ghost use Rattle.std.specs.Prelude.{◌≡◌, ◌≢◌, ◌+◌, ◌<◌, ◌≤◌, ◌↔◌, ◌⊎◌, List, ℕ, length, take, IsOk, IfOk, IfErr, OnOk, IsErrOf, IsTrue, IfSome, Some};
+ghost use Rattle.std.specs.Prelude.{◌≡◌, ◌≢◌, ◌+◌, ◌<◌, ◌≤◌, ◌↔◌, ◌⊎◌, List, ℕ, length, take, IsOk};
+ghost use Rattle.std.specs.Prelude.{IfOk, IfErr, OnOk, IsErrOf, IsTrue, IfSome, Some};
 ghost use Rattle.mx_outside.specs.Budget.{CoversCalls, SpendsCalls};
 ghost use Rattle.mx_outside.specs.Disk.{Only, LeavesOnly, CountsFaults};
 ghost use Rattle.mx_journal.specs.Calls.{OnlyReads, CountsDiskFaults};

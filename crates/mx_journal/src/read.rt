@@ -1,5 +1,7 @@
 //! Reading one record at its gate.
-ghost use Rattle.std.specs.Prelude.{◌≡◌, ◌≢◌, ◌+◌, ◌<◌, ◌≤◌, ◌^◌, List, ℕ, length, take, drop, slice_index, vec_len, IsOk, IfOk, OnOk, IfSome, MatchOption, true};
+ghost use Rattle.std.specs.Prelude.{◌≡◌, ◌≢◌, ◌+◌, ◌<◌, ◌≤◌, ◌^◌, List, ℕ, length, take, drop};
+ghost use Rattle.std.specs.Prelude.{slice_index, vec_len, IsOk, IfOk, OnOk, IfSome, MatchOption};
+ghost use Rattle.std.specs.Prelude.{true};
 ghost use Rattle.mx_outside.specs.Budget.{CoversCalls, SpendsCalls};
 ghost use Rattle.mx_outside.specs.Disk.{CountsFaults};
 ghost use Rattle.mx_journal.specs.Image.{number_bytes};

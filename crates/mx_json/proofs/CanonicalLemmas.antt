@@ -1,5 +1,6 @@
 -- The canonical text is what a writer gives for the value's tokens.
-use Rattle.std.proofs.Common.{◌≡◌, ℕ, ℤ, pos, negsuc, Bool, true, false, List, [], ◌∷◌, ◌++◌, map, codes, rules, refl, sym, ap, ap₂, ◌∙◌, append_assoc}
+use Rattle.std.proofs.Common.{◌≡◌, ℕ, ℤ, pos, negsuc, Bool, true, false, List, [], ◌∷◌, ◌++◌, map, codes, rules, refl}
+use Rattle.std.proofs.Common.{sym, ap, ap₂, ◌∙◌, append_assoc}
 use Rattle.std.specs.Fmt.{signed_decimal}
 use Rattle.std.specs.List.{join_with_byte}
 use Rattle.json.specs.Print.{print, quoted}
@@ -12,14 +13,16 @@ use Rattle.mx_json.specs.declared.value.JsonList.{JsonList}
 use Rattle.mx_json.specs.declared.value.JsonObject.{JsonObject}
 use Rattle.mx_json.specs.Canonical.{canonical, comma, list_text, object_text, pair_text}
 use Rattle.mx_json.specs.Tokens.{data_of, items_data, pairs_data, tokens_of}
-use Rattle.mx_json.proofs.DataLemmas.{data_of-Null, data_of-Truth, data_of-Whole, data_of-Text, data_of-List, data_of-Object}
+use Rattle.mx_json.proofs.DataLemmas.{data_of-Null, data_of-Truth, data_of-Whole, data_of-Text, data_of-List}
+use Rattle.mx_json.proofs.DataLemmas.{data_of-Object}
 use Rattle.mx_json.proofs.Induction.{Each, EachValue, every}
 use Rattle.mx_json.proofs.JsonLemmas.{with_value}
 
 pub canonical-List : (list : JsonList) → canonical (ListOf list) ≡ list_text record { items = map canonical list.items }
 canonical-List list = search (rules, the_lemmas)
 
-pub canonical-Object : (whole : JsonObject) → canonical (Object whole) ≡ object_text record { pairs = map (with_value canonical) whole.pairs }
+pub canonical-Object : (whole : JsonObject)
+    → canonical (Object whole) ≡ object_text record { pairs = map (with_value canonical) whole.pairs }
 canonical-Object whole = search (rules, the_lemmas)
 
 -- ---- an object's text, member by member
@@ -52,18 +55,22 @@ number_text-of_integer (negsuc n) = refl
 abbrev IsPrinted : Json → Type 0
 IsPrinted json = compact_text (data_of json) ≡ canonical json
 
-joined_items : (items : List Json) → Each IsPrinted items → items_text false (items_data items) ≡ join_with_byte 44 (map canonical items) ++ 93 ∷ []
+joined_items : (items : List Json) → Each IsPrinted items
+    → items_text false (items_data items) ≡ join_with_byte 44 (map canonical items) ++ 93 ∷ []
 joined_items [] h = refl
 joined_items (item ∷ []) h = ap (λ s. s ++ 93 ∷ []) h.0
 joined_items (item ∷ next ∷ items) h =
-    ap₂ (λ (s t : List ℕ). s ++ 44 ∷ t) h.0 (joined_items (next ∷ items) h.1) ∙ sym (append_assoc (canonical item) (44 ∷ join_with_byte 44 (map canonical (next ∷ items))) (93 ∷ []))
+    ap₂ (λ (s t : List ℕ). s ++ 44 ∷ t) h.0 (joined_items (next ∷ items) h.1)
+    ∙ sym (append_assoc (canonical item) (44 ∷ join_with_byte 44 (map canonical (next ∷ items))) (93 ∷ []))
 
 pair_then : (key text rest : List ℕ) → quoted key ++ 58 ∷ (text ++ rest) ≡ (quoted key ++ 58 ∷ text) ++ rest
 pair_then key text rest = sym (append_assoc (quoted key) (58 ∷ text) rest)
 
-joined_pairs : (pairs : List (List ℕ × Json)) → EachValue IsPrinted pairs → members_text false (pairs_data pairs) ≡ join_with_byte 44 (map pair_text (map (with_value canonical) pairs)) ++ 125 ∷ []
+joined_pairs : (pairs : List (List ℕ × Json)) → EachValue IsPrinted pairs → members_text false (pairs_data pairs)
+    ≡ join_with_byte 44 (map pair_text (map (with_value canonical) pairs)) ++ 125 ∷ []
 joined_pairs [] h = refl
-joined_pairs (pair ∷ []) h = ap (λ s. quoted pair.0 ++ 58 ∷ (s ++ 125 ∷ [])) h.0 ∙ pair_then pair.0 (canonical pair.1) (125 ∷ [])
+joined_pairs (pair ∷ []) h =
+    ap (λ s. quoted pair.0 ++ 58 ∷ (s ++ 125 ∷ [])) h.0 ∙ pair_then pair.0 (canonical pair.1) (125 ∷ [])
 joined_pairs (pair ∷ next ∷ pairs) h =
     let rest = join_with_byte 44 (map pair_text (map (with_value canonical) (next ∷ pairs))) in
     ap₂ (λ (s t : List ℕ). quoted pair.0 ++ 58 ∷ (s ++ 44 ∷ t)) h.0 (joined_pairs (next ∷ pairs) h.1)
@@ -80,8 +87,10 @@ is_printed = every IsPrinted record {
   truth = λ truth. ap compact_text (data_of-Truth truth) ∙ truth_printed truth;
   whole = λ n. ap compact_text (data_of-Whole n) ∙ number_text-of_integer n ∙ search (rules, the_lemmas);
   text = λ text. ap compact_text (data_of-Text text) ∙ search (rules, the_lemmas);
-  list = λ list h. ap compact_text (data_of-List list) ∙ ap (λ s. 91 ∷ s) (joined_items list.items h) ∙ sym (canonical-List list);
-  object = λ whole h. ap compact_text (data_of-Object whole) ∙ ap (λ s. 123 ∷ s) (joined_pairs whole.pairs h) ∙ sym (canonical-Object whole);
+  list = λ list h. ap compact_text (data_of-List list) ∙ ap (λ s. 91 ∷ s) (joined_items list.items h)
+      ∙ sym (canonical-List list);
+  object = λ whole h. ap compact_text (data_of-Object whole) ∙ ap (λ s. 123 ∷ s) (joined_pairs whole.pairs h)
+      ∙ sym (canonical-Object whole);
 }
 
 pub print-tokens_of : (json : Json) → print (tokens_of json) ≡ canonical json

@@ -1,10 +1,12 @@
 -- A folded text from its parts: that of an ASCII text, and one character before the rest.
-use Rattle.std.proofs.Common.{◌≡◌, ℕ, List, [], ◌∷◌, ◌++◌, append_assoc, append-nil, length, map, IsAscii, IsUtf8, encode_utf8, chars, arith, sym, ap, ◌∙◌}
+use Rattle.std.proofs.Common.{◌≡◌, ℕ, List, [], ◌∷◌, ◌++◌, append_assoc, append-nil, length, map, IsAscii, IsUtf8}
+use Rattle.std.proofs.Common.{encode_utf8, chars, arith, sym, ap, ◌∙◌}
 use Rattle.std.proofs.lemmas.Str.{chars-IsAscii, chars-nil, chars_past_char}
 use Rattle.std.specs.Char.{to_ascii_lowercase}
 use Rattle.ucd_case.specs.CaseFolding.{full_fold}
 use Rattle.caseless.specs.Caseless.{default_case_fold}
-use Rattle.caseless.proofs.CaselessLemmas.{default_case_fold-ascii, default_case_fold-nil, default_case_fold-cons, All-chars}
+use Rattle.caseless.proofs.CaselessLemmas.{default_case_fold-ascii, default_case_fold-nil, default_case_fold-cons}
+use Rattle.caseless.proofs.CaselessLemmas.{All-chars}
 use Rattle.mx_json.specs.Folded.{folded}
 
 -- an ASCII text folds to its bytes in lower case

@@ -3,7 +3,8 @@ use Rattle.std.proofs.Common.{ℕ, ℤ, Bool, List, [], ◌∷◌, map, sym, sub
 use Rattle.mx_json.specs.declared.value.Json.{Json, Null, Truth, Whole, Text, List as ListOf, Object, roll-Json}
 use Rattle.mx_json.specs.declared.value.Json.TheOpen.{Json-F}
 use Rattle.mx_json.specs.declared.value.Json.TheFolds.{ind-Json, map-Json}
-use Rattle.mx_json.specs.declared.value.Json.TheVariants.{rolls-Null, rolls-Truth, rolls-Whole, rolls-Text, rolls-List, rolls-Object}
+use Rattle.mx_json.specs.declared.value.Json.TheVariants.{rolls-Null, rolls-Truth, rolls-Whole, rolls-Text, rolls-List}
+use Rattle.mx_json.specs.declared.value.Json.TheVariants.{rolls-Object}
 use Rattle.mx_json.specs.declared.value.JsonList.{JsonList}
 use Rattle.mx_json.specs.declared.value.JsonObject.{JsonObject}
 
@@ -55,4 +56,5 @@ module _ (P : Json → Type 0) where
   pub every : Steps P → (json : Json) → P json
   every steps =
       ind-Json P InList InObject (λ x y is. subst (λ z. P (roll-Json z)) is (shown steps y))
-      (λ x y is. subst (λ z. Each P z.items) is (each_item y.items)) (λ x y is. subst (λ z. EachValue P z.pairs) is (each_pair y.pairs))
+      (λ x y is. subst (λ z. Each P z.items) is (each_item y.items))
+      (λ x y is. subst (λ z. EachValue P z.pairs) is (each_pair y.pairs))

@@ -1,5 +1,6 @@
 -- A canonical text is one line: no byte of it is below 32, so none is a line feed.
-use Rattle.std.proofs.Common.{◌≡◌, ℕ, ◌+◌, ◌<◌, ◌≤◌, ◌/◌, ◌%◌, ◌==◌, ℤ, pos, negsuc, Bool, true, false, cond, List, [], ◌∷◌, ◌++◌, map, codes, nat_lt, rules, refl, arith, zero, suc}
+use Rattle.std.proofs.Common.{◌≡◌, ℕ, ◌+◌, ◌<◌, ◌≤◌, ◌/◌, ◌%◌, ◌==◌, ℤ, pos, negsuc, Bool, true, false, cond, List, []}
+use Rattle.std.proofs.Common.{◌∷◌, ◌++◌, map, codes, nat_lt, rules, refl, arith, zero, suc}
 use Rattle.std.proofs.lemmas.Bool.Decides.{nat_tests}
 use Rattle.std.specs.Fmt.{decimal, digits, digits_onto, digit_glyph, signed_decimal}
 use Rattle.std.specs.List.{join_with_byte}
@@ -61,16 +62,21 @@ escaped_by false false x letter long short has plain = (plain refl, tt)
 HasNoControl-escape_byte : (x : ℕ) → HasNoControl (escape_byte x)
 unfolding escape_byte
 HasNoControl-escape_byte x =
-    escaped_by (nat_lt 0 (escape_letter x)) (nat_lt x 32) x (escape_letter x) _ (λ is. letter_above x (grind (arith, nat_tests)))
-    (omega arith, (omega arith, (omega arith, (omega arith, (hexadecimal_above (x / 16), (hexadecimal_above (x % 16), tt))))))
+    escaped_by (nat_lt 0 (escape_letter x)) (nat_lt x 32) x (escape_letter x) _
+    (λ is. letter_above x (grind (arith, nat_tests))) (
+      omega arith,
+      (omega arith, (omega arith, (omega arith, (hexadecimal_above (x / 16), (hexadecimal_above (x % 16), tt))))),
+    )
     (λ is. grind (arith, nat_tests))
 
 HasNoControl-escape : (text : List ℕ) → HasNoControl (escape text)
 HasNoControl-escape [] = tt
-HasNoControl-escape (b ∷ text) = HasNoControl-append (escape_byte b) (escape text) (HasNoControl-escape_byte b) (HasNoControl-escape text)
+HasNoControl-escape (b ∷ text) =
+    HasNoControl-append (escape_byte b) (escape text) (HasNoControl-escape_byte b) (HasNoControl-escape text)
 
 HasNoControl-quoted : (text : List ℕ) → HasNoControl (quoted text)
-HasNoControl-quoted text = (omega arith, HasNoControl-append (escape text) (34 ∷ []) (HasNoControl-escape text) (omega arith, tt))
+HasNoControl-quoted text =
+    (omega arith, HasNoControl-append (escape text) (34 ∷ []) (HasNoControl-escape text) (omega arith, tt))
 
 -- ---- values
 
@@ -81,17 +87,20 @@ HasNoControl-joined : (items : List Json) → Each IsLine items → HasNoControl
 HasNoControl-joined [] each = tt
 HasNoControl-joined (item ∷ []) each = each.0
 HasNoControl-joined (item ∷ next ∷ items) each =
-    HasNoControl-append (canonical item) (44 ∷ join_with_byte 44 (map canonical (next ∷ items))) each.0 (omega arith, HasNoControl-joined (next ∷ items) each.1)
+    HasNoControl-append (canonical item) (44 ∷ join_with_byte 44 (map canonical (next ∷ items))) each.0
+    (omega arith, HasNoControl-joined (next ∷ items) each.1)
 
 HasNoControl-pair : (key : List ℕ) (json : Json) → IsLine json → HasNoControl (pair_text (key, canonical json))
-HasNoControl-pair key json is = HasNoControl-append (quoted key) (58 ∷ canonical json) (HasNoControl-quoted key) (omega arith, is)
+HasNoControl-pair key json is =
+    HasNoControl-append (quoted key) (58 ∷ canonical json) (HasNoControl-quoted key) (omega arith, is)
 
 HasNoControl-pairs : (pairs : List (List ℕ × Json)) → EachValue IsLine pairs
     → HasNoControl (join_with_byte 44 (map pair_text (map (with_value canonical) pairs)))
 HasNoControl-pairs [] each = tt
 HasNoControl-pairs (pair ∷ []) each = HasNoControl-pair pair.0 pair.1 each.0
 HasNoControl-pairs (pair ∷ next ∷ pairs) each =
-    HasNoControl-append (pair_text (pair.0, canonical pair.1)) (44 ∷ join_with_byte 44 (map pair_text (map (with_value canonical) (next ∷ pairs))))
+    HasNoControl-append (pair_text (pair.0, canonical pair.1))
+    (44 ∷ join_with_byte 44 (map pair_text (map (with_value canonical) (next ∷ pairs))))
     (HasNoControl-pair pair.0 pair.1 each.0) (omega arith, HasNoControl-pairs (next ∷ pairs) each.1)
 
 canonical-Null : canonical Null ≡ codes "null"
@@ -125,9 +134,20 @@ HasNoControl-literal (b ∷ bytes) is =
 pub HasNoControl-canonical : (json : Json) → HasNoControl (canonical json)
 HasNoControl-canonical = every IsLine record {
   null = rw canonical-Null (HasNoControl-literal (codes "null") refl);
-  truth = λ truth. rw canonical-Truth (HasNoControl-cond truth (codes "true") (codes "false") (HasNoControl-literal (codes "true") refl) (HasNoControl-literal (codes "false") refl));
+  truth = λ truth. rw canonical-Truth (HasNoControl-cond truth (codes "true") (codes "false")
+      (HasNoControl-literal (codes "true") refl) (HasNoControl-literal (codes "false") refl));
   whole = λ n. rw canonical-Whole (HasNoControl-signed n);
   text = λ text. rw canonical-Text (HasNoControl-quoted text);
-  list = λ list each. rw canonical-List (omega arith, HasNoControl-append (join_with_byte 44 (map canonical list.items)) (93 ∷ []) (HasNoControl-joined list.items each) (omega arith, tt));
-  object = λ whole each. rw canonical-Object (omega arith, HasNoControl-append (join_with_byte 44 (map pair_text (map (with_value canonical) whole.pairs))) (125 ∷ []) (HasNoControl-pairs whole.pairs each) (omega arith, tt));
+  list = λ list each. rw canonical-List (
+    omega arith,
+    HasNoControl-append (join_with_byte 44 (map canonical list.items)) (93 ∷ []) (HasNoControl-joined list.items each) (
+      omega arith,
+      tt,
+    ),
+  );
+  object = λ whole each. rw canonical-Object (
+    omega arith,
+    HasNoControl-append (join_with_byte 44 (map pair_text (map (with_value canonical) whole.pairs))) (125 ∷ [])
+        (HasNoControl-pairs whole.pairs each) (omega arith, tt),
+  );
 }

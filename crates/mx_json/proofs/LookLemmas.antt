@@ -1,5 +1,6 @@
 -- A step down a path, and the object that it goes through.
-use Rattle.std.proofs.Common.{◌≡◌, ℕ, ◌+◌, ◌<◌, true, List, [], ◌∷◌, length, get_or, drop, Option, Some, None, is_some, MatchOption, option_map, option_and_then, arith, rules, sym, ap, ◌∙◌}
+use Rattle.std.proofs.Common.{◌≡◌, ℕ, ◌+◌, ◌<◌, true, List, [], ◌∷◌, length, get_or, drop, Option, Some, None, is_some}
+use Rattle.std.proofs.Common.{MatchOption, option_map, option_and_then, arith, rules, sym, ap, ◌∙◌}
 use Rattle.std.proofs.lemmas.List.{at_drop_more}
 use Rattle.std.proofs.lemmas.Option.{slice_get-get_or}
 use Rattle.mx_json.specs.declared.value.Json.{Json, Object, the_lemmas}
@@ -9,15 +10,18 @@ use Rattle.mx_json.specs.Path.{look}
 use Rattle.mx_json.proofs.JsonLemmas.{is_valid_parts}
 use Rattle.mx_json.proofs.RisingLemmas.{keys_of, canonical_object}
 
-pub look_step : (path : List (List ℕ)) (i : ℕ) (key : List ℕ) (here next : Json) → i < length path → key ≡ get_or path i key → Some next ≡ member key here → look (drop i path) here ≡ look (drop (i + 1) path) next
+pub look_step : (path : List (List ℕ)) (i : ℕ) (key : List ℕ) (here next : Json) → i < length path
+    → key ≡ get_or path i key → Some next ≡ member key here → look (drop i path) here ≡ look (drop (i + 1) path) next
 look_step path i key here next within is found =
     at_drop_more (λ p. look p here) path i key within
     ∙ ap (λ k. option_and_then (look (drop (i + 1) path)) (member k here)) (sym is)
     ∙ ap (option_and_then (look (drop (i + 1) path))) (sym found)
 
 -- the keys of a valid object rise
-pub are_rising-valid : (json : Json) (object : JsonObject) → is_valid json ≡ true → json ≡ Object object → are_rising (keys_of object.pairs) ≡ true
-are_rising-valid json object valid is = (canonical_object object (sym (ap is_canonical is) ∙ (is_valid_parts json valid).0)).0
+pub are_rising-valid : (json : Json) (object : JsonObject) → is_valid json ≡ true → json ≡ Object object
+    → are_rising (keys_of object.pairs) ≡ true
+are_rising-valid json object valid is =
+    (canonical_object object (sym (ap is_canonical is) ∙ (is_valid_parts json valid).0)).0
 
 -- the value that stands at a place
 pub member_in_place : (key : List ℕ) (pairs : List (List ℕ × Json)) (at : ℕ) (pair : List ℕ × Json)

@@ -1,5 +1,6 @@
 -- An object with rising keys and valid values is valid, where no value is nested too deep.
-use Rattle.std.proofs.Common.{◌≡◌, ℕ, ◌≤◌, nat_le, nat_lt, ℤ, Bool, true, ◌&&◌, List, [], ◌∷◌, map, refl, ap, ◌∙◌, arith, rules}
+use Rattle.std.proofs.Common.{◌≡◌, ℕ, ◌≤◌, nat_le, nat_lt, ℤ, Bool, true, ◌&&◌, List, [], ◌∷◌, map, refl, ap, ◌∙◌}
+use Rattle.std.proofs.Common.{arith, rules}
 use Rattle.std.proofs.lemmas.Bool.{and_from, and_parts, le-leb, leb-true, ltb-true}
 use Rattle.std.specs.List.{list_all}
 use Rattle.std.specs.Str.{is_utf8, IsAscii}
@@ -9,7 +10,8 @@ use Rattle.mx_json.specs.declared.value.Json.{Json, Null, Truth, Whole, Text, Ob
 use Rattle.mx_json.specs.declared.value.JsonObject.{JsonObject}
 use Rattle.mx_json.specs.Json.{are_rising, depth_of, is_canonical, is_valid, is_whole, largest}
 use Rattle.mx_json.specs.Utf8.{has_utf8}
-use Rattle.mx_json.proofs.JsonLemmas.{depth_of-Object, has_utf8-Object, has_utf8-Text, is_canonical-Object, is_canonical-Whole, is_valid_from, is_valid_parts, is_valid-Text, with_value}
+use Rattle.mx_json.proofs.JsonLemmas.{depth_of-Object, has_utf8-Object, has_utf8-Text, is_canonical-Object}
+use Rattle.mx_json.proofs.JsonLemmas.{is_canonical-Whole, is_valid_from, is_valid_parts, is_valid-Text, with_value}
 use Rattle.mx_json.proofs.RisingLemmas.{keys_of, keys_of-with_value}
 
 -- the pair may stand in a valid object
@@ -48,7 +50,8 @@ values-within (pair ∷ pairs) fit =
     let rest = values-within pairs parts.1 in
     omega arith
 
-pub is_valid-Object : (object : JsonObject) → are_rising (keys_of object.pairs) ≡ true → list_all is_fit object.pairs ≡ true
+pub is_valid-Object : (object : JsonObject) → are_rising (keys_of object.pairs) ≡ true
+    → list_all is_fit object.pairs ≡ true
     → is_valid (Object object) ≡ true
 is_valid-Object object rising fit =
     let keys = ap are_rising (keys_of-with_value is_canonical object.pairs) ∙ rising in
@@ -76,15 +79,18 @@ is_valid-ascii text ascii = is_valid-Text text (IsUtf8-from_ascii text (IsAscii-
 
 -- ---- pairs that are fit
 
-pub is_fit_from : (key : List ℕ) (json : Json) → is_utf8 key ≡ true → is_valid json ≡ true → depth_of json ≤ 126 → is_fit (key, json) ≡ true
+pub is_fit_from : (key : List ℕ) (json : Json) → is_utf8 key ≡ true → is_valid json ≡ true → depth_of json ≤ 126
+    → is_fit (key, json) ≡ true
 is_fit_from key json utf8 valid within = and_from _ _ utf8 (and_from _ _ valid (le-leb _ _ within))
 
-plain : (key : List ℕ) (json : Json) → is_utf8 key ≡ true → is_canonical json ≡ true → has_utf8 json ≡ true → depth_of json ≡ 0 → is_fit (key, json) ≡ true
+plain : (key : List ℕ) (json : Json) → is_utf8 key ≡ true → is_canonical json ≡ true → has_utf8 json ≡ true
+    → depth_of json ≡ 0 → is_fit (key, json) ≡ true
 plain key json utf8 canonical texts flat =
     is_fit_from key json utf8 (is_valid_from json canonical texts (omega arith)) (omega arith)
 
 pub is_fit-Null : (key : List ℕ) → is_utf8 key ≡ true → is_fit (key, Null) ≡ true
-is_fit-Null key utf8 = plain key Null utf8 (search (rules, the_lemmas)) (search (rules, the_lemmas)) (search (rules, the_lemmas))
+is_fit-Null key utf8 =
+    plain key Null utf8 (search (rules, the_lemmas)) (search (rules, the_lemmas)) (search (rules, the_lemmas))
 
 pub is_fit-Truth : (key : List ℕ) (truth : Bool) → is_utf8 key ≡ true → is_fit (key, Truth truth) ≡ true
 is_fit-Truth key truth utf8 =
@@ -96,4 +102,5 @@ is_fit-Whole key n utf8 whole =
 
 pub is_fit-Text : (key text : List ℕ) → is_utf8 key ≡ true → is_utf8 text ≡ true → is_fit (key, Text text) ≡ true
 is_fit-Text key text utf8 text_utf8 =
-    plain key (Text text) utf8 (search (rules, the_lemmas)) (has_utf8-Text text ∙ text_utf8) (search (rules, the_lemmas))
+    plain key (Text text) utf8 (search (rules, the_lemmas)) (has_utf8-Text text ∙ text_utf8)
+    (search (rules, the_lemmas))

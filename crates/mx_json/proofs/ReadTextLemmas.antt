@@ -5,7 +5,8 @@ use Rattle.std.proofs.lemmas.Str.{IsUtf8-string_bytes, is_utf8-from_IsUtf8}
 use Rattle.std.specs.List.{list_all}
 use Rattle.std.specs.Prelude.{⊤, ◌&&◌}
 use Rattle.std.specs.Str.{is_utf8}
-use Rattle.serde_json.specs.Data.{Data, null, boolean, number, string, array, object, Items, no_items, item, Members, no_members, member}
+use Rattle.serde_json.specs.Data.{Data, null, boolean, number, string, array, object, Items, no_items, item, Members}
+use Rattle.serde_json.specs.Data.{no_members, member}
 use Rattle.serde_json.specs.View.{items_of as items_from, members_of, view, view_step}
 use Rattle.serde_json.specs.declared.value.Value.{Value}
 use Rattle.serde_json.specs.declared.value.Value.TheOpen.{Value-F}
@@ -48,9 +49,11 @@ mutual
   items_utf8 no_items h = search rules
   items_utf8 (item d items) h = and_from _ _ (has_utf8-json_of d h.0) (items_utf8 items h.1)
 
-  members_utf8 : (members : Members) → MembersHaveTexts members → list_all (λ pair. is_utf8 pair.0 && pair.1) (map (with_value has_utf8) (pairs_of members)) ≡ true
+  members_utf8 : (members : Members) → MembersHaveTexts members
+      → list_all (λ pair. is_utf8 pair.0 && pair.1) (map (with_value has_utf8) (pairs_of members)) ≡ true
   members_utf8 no_members h = search rules
-  members_utf8 (member key d members) h = and_from _ _ (and_from _ _ h.0 (has_utf8-json_of d h.1)) (members_utf8 members h.2)
+  members_utf8 (member key d members) h =
+      and_from _ _ (and_from _ _ h.0 (has_utf8-json_of d h.1)) (members_utf8 members h.2)
 
 -- ---- the data of a value of the program
 
@@ -64,11 +67,13 @@ items_shown : (items : List Shown) → ItemsHaveTexts (items_from (map view (map
 items_shown [] = tt
 items_shown (e ∷ items) = (e.1, items_shown items)
 
-entries_shown : (entries : List (String Global × Shown)) → MembersHaveTexts (members_of (map (λ (m : String Global × Value). (m.0, view m.1)) (map (λ (e : String Global × Shown). (e.0, e.1.0)) entries)))
+entries_shown : (entries : List (String Global × Shown)) → MembersHaveTexts (members_of
+    (map (λ (m : String Global × Value). (m.0, view m.1)) (map (λ (e : String Global × Shown). (e.0, e.1.0)) entries)))
 entries_shown [] = tt
 entries_shown (e ∷ entries) = (text_utf8 e.0, e.1.1, entries_shown entries)
 
-layer_shown : (y : Value-F Shown) → HasTexts (view_step (map-Value Value Data view (map-Value Shown Value (λ e. e.0) y)))
+layer_shown : (y : Value-F Shown)
+    → HasTexts (view_step (map-Value Value Data view (map-Value Shown Value (λ e. e.0) y)))
 layer_shown Value-F.Null = tt
 layer_shown (Value-F.Bool truth) = tt
 layer_shown (Value-F.Number n) = tt
@@ -80,4 +85,5 @@ shown : (y : Value-F Shown) → HasTexts (view (roll-Value (map-Value Shown Valu
 shown y = subst HasTexts (sym (fold-roll-Value Data view_step (map-Value Shown Value (λ e. e.0) y))) (layer_shown y)
 
 pub has_utf8-read : (v : Value) → has_utf8 (json_of (view v)) ≡ true
-has_utf8-read v = has_utf8-json_of (view v) (ind-Value (λ u. HasTexts (view u)) (λ x y is. subst (λ z. HasTexts (view (roll-Value z))) is (shown y)) v)
+has_utf8-read v = has_utf8-json_of (view v)
+    (ind-Value (λ u. HasTexts (view u)) (λ x y is. subst (λ z. HasTexts (view (roll-Value z))) is (shown y)) v)

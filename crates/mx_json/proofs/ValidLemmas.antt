@@ -1,5 +1,7 @@
 -- What is read is valid: the keys of each object rise, since `put` keeps them in order.
-use Rattle.std.proofs.Common.{◌≡◌, ◌≤◌, ℕ, suc, true, List, [], ◌∷◌, map, Option, Some, None, is_some, unwrap_or, ℤ, pos, option_map, option_and_then, Ordering, Less, Equal, Greater, refl, ap, ◌∙◌, subst, arith, rules}
+use Rattle.std.proofs.Common.{◌≡◌, ◌≤◌, ℕ, suc, true, List, [], ◌∷◌, map, Option, Some, None, is_some, unwrap_or, ℤ}
+use Rattle.std.proofs.Common.{pos, option_map, option_and_then, Ordering, Less, Equal, Greater, refl, ap, ◌∙◌, subst}
+use Rattle.std.proofs.Common.{arith, rules}
 use Rattle.std.specs.Prelude.{⊤}
 use Rattle.std.proofs.lemmas.Bool.{and_from, and_parts, le-leb}
 use Rattle.std.proofs.lemmas.Cmp.{nat_list_cmp_total}
@@ -8,14 +10,17 @@ use Rattle.std.specs.List.{list_all}
 use Rattle.std.specs.Ordering.{is_lt, match_ordering, nat_cmp}
 use Rattle.json.specs.Json as json
 use Rattle.json.specs.Lex.{tokens}
-use Rattle.serde_json.specs.Data.{Num, Data, null, boolean, number, string, array, object, Items, no_items, item, Members, no_members, member, put, depth, items_depth, members_depth}
+use Rattle.serde_json.specs.Data.{Num, Data, null, boolean, number, string, array, object, Items, no_items, item}
+use Rattle.serde_json.specs.Data.{Members, no_members, member, put, depth, items_depth, members_depth}
 use Rattle.serde_json.specs.Read.{max_depth, number_of, of_items, of_json, of_members, read}
 use Rattle.mx_json.specs.declared.value.Json.{Whole, the_lemmas}
 use Rattle.mx_json.specs.Json.{are_rising, depth_of, is_canonical, is_valid, largest}
-use Rattle.mx_json.specs.Reading.{all_whole, all_whole_items, all_whole_members, items_of, json_of, pairs_of, whole_number_of}
+use Rattle.mx_json.specs.Reading.{all_whole, all_whole_items, all_whole_members, items_of, json_of, pairs_of}
+use Rattle.mx_json.specs.Reading.{whole_number_of}
 use Rattle.mx_json.specs.Utf8.{has_utf8}
 use Rattle.mx_json.proofs.WholeLemmas.{whole_number_of-some}
-use Rattle.mx_json.proofs.JsonLemmas.{depth_of-List, depth_of-Object, is_canonical-List, is_canonical-Object, is_canonical-Whole, is_valid_from, with_value}
+use Rattle.mx_json.proofs.JsonLemmas.{depth_of-List, depth_of-Object, is_canonical-List, is_canonical-Object}
+use Rattle.mx_json.proofs.JsonLemmas.{is_canonical-Whole, is_valid_from, with_value}
 
 -- ---- the keys of an object that was read
 
@@ -52,7 +57,8 @@ lt_from k l is = rw is
 abbrev RisesAfter : List ℕ → Members → Type 0
 RisesAfter key ms = are_rising (key ∷ member_keys ms) ≡ true
 
-put_after_at : (o : Ordering) (first k l : List ℕ) (d e : Data) (ms : Members) → slice_cmp nat_cmp k l ≡ o → RisesAfter first (member l e ms) → is_lt (slice_cmp nat_cmp first k) ≡ true
+put_after_at : (o : Ordering) (first k l : List ℕ) (d e : Data) (ms : Members) → slice_cmp nat_cmp k l ≡ o
+    → RisesAfter first (member l e ms) → is_lt (slice_cmp nat_cmp first k) ≡ true
     → (is_lt (slice_cmp nat_cmp l k) ≡ true → RisesAfter l (put k d ms))
     → RisesAfter first (match_ordering o (member k d (member l e ms)) (member l d ms) (member l e (put k d ms)))
 put_after_at Less first k l d e ms is rises lower later =
@@ -63,24 +69,29 @@ put_after_at Greater first k l d e ms is rises lower later =
     let parts = and_parts (is_lt (slice_cmp nat_cmp first l)) _ rises in
     and_from _ _ parts.0 (later (below k l is))
 
-put_after : (first k : List ℕ) (d : Data) (ms : Members) → RisesAfter first ms → is_lt (slice_cmp nat_cmp first k) ≡ true → RisesAfter first (put k d ms)
+put_after : (first k : List ℕ) (d : Data) (ms : Members) → RisesAfter first ms
+    → is_lt (slice_cmp nat_cmp first k) ≡ true → RisesAfter first (put k d ms)
 put_after first k d no_members rises lower = and_from _ _ lower refl
 put_after first k d (member l e ms) rises lower =
     let parts = and_parts (is_lt (slice_cmp nat_cmp first l)) (are_rising (l ∷ member_keys ms)) rises in
     put_after_at (slice_cmp nat_cmp k l) first k l d e ms refl rises lower (put_after l k d ms parts.1)
 
 -- `put` keeps the keys in order
-keys_rise_at : (o : Ordering) (k l : List ℕ) (d e : Data) (ms : Members) → slice_cmp nat_cmp k l ≡ o → are_rising (member_keys (member l e ms)) ≡ true
-    → are_rising (member_keys (match_ordering o (member k d (member l e ms)) (member l d ms) (member l e (put k d ms)))) ≡ true
+keys_rise_at : (o : Ordering) (k l : List ℕ) (d e : Data) (ms : Members) → slice_cmp nat_cmp k l ≡ o
+    → are_rising (member_keys (member l e ms)) ≡ true
+    → are_rising (member_keys (match_ordering o (member k d (member l e ms)) (member l d ms) (member l e (put k d ms))))
+    ≡ true
 keys_rise_at Less k l d e ms is rises = and_from _ _ (lt_from k l is) rises
 keys_rise_at Equal k l d e ms is rises = rises
 keys_rise_at Greater k l d e ms is rises = put_after l k d ms rises (below k l is)
 
-keys_rise-put : (k : List ℕ) (d : Data) (ms : Members) → are_rising (member_keys ms) ≡ true → are_rising (member_keys (put k d ms)) ≡ true
+keys_rise-put : (k : List ℕ) (d : Data) (ms : Members) → are_rising (member_keys ms) ≡ true
+    → are_rising (member_keys (put k d ms)) ≡ true
 keys_rise-put k d no_members rises = refl
 keys_rise-put k d (member l e ms) rises = keys_rise_at (slice_cmp nat_cmp k l) k l d e ms refl rises
 
-members_rise_at : (o : Ordering) (a b c : Members) → RiseMembers a → RiseMembers b → RiseMembers c → RiseMembers (match_ordering o a b c)
+members_rise_at : (o : Ordering) (a b c : Members) → RiseMembers a → RiseMembers b → RiseMembers c
+    → RiseMembers (match_ordering o a b c)
 members_rise_at Less a b c x y z = x
 members_rise_at Equal a b c x y z = y
 members_rise_at Greater a b c x y z = z
@@ -88,18 +99,21 @@ members_rise_at Greater a b c x y z = z
 members_rise-put : (k : List ℕ) (d : Data) (ms : Members) → Rises d → RiseMembers ms → RiseMembers (put k d ms)
 members_rise-put k d no_members rises each = (rises, tt)
 members_rise-put k d (member l e ms) rises each =
-    members_rise_at (slice_cmp nat_cmp k l) (member k d (member l e ms)) (member l d ms) (member l e (put k d ms)) (rises, each) (rises, each.1) (each.0, members_rise-put k d ms rises each.1)
+    members_rise_at (slice_cmp nat_cmp k l) (member k d (member l e ms)) (member l d ms) (member l e (put k d ms))
+    (rises, each) (rises, each.1) (each.0, members_rise-put k d ms rises each.1)
 
 -- what was read, if it was, has the property
 abbrev IfRead : {A : Type 0} → (A → Type 0) → Option A → Type 0
 IfRead P None = ⊤
 IfRead P (Some a) = P a
 
-IfRead-map : {A B : Type 0} (P : A → Type 0) (Q : B → Type 0) (h : A → B) → ((a : A) → P a → Q (h a)) → (o : Option A) → IfRead P o → IfRead Q (option_map h o)
+IfRead-map : {A B : Type 0} (P : A → Type 0) (Q : B → Type 0) (h : A → B) → ((a : A) → P a → Q (h a)) → (o : Option A)
+    → IfRead P o → IfRead Q (option_map h o)
 IfRead-map P Q h k None x = tt
 IfRead-map P Q h k (Some a) x = k a x
 
-IfRead-and_then : {A B : Type 0} (P : A → Type 0) (Q : B → Type 0) (h : A → Option B) → ((a : A) → P a → IfRead Q (h a)) → (o : Option A) → IfRead P o → IfRead Q (option_and_then h o)
+IfRead-and_then : {A B : Type 0} (P : A → Type 0) (Q : B → Type 0) (h : A → Option B) → ((a : A) → P a → IfRead Q (h a))
+    → (o : Option A) → IfRead P o → IfRead Q (option_and_then h o)
 IfRead-and_then P Q h k None x = tt
 IfRead-and_then P Q h k (Some a) x = k a x
 
@@ -117,17 +131,23 @@ mutual
   Rises-of_json (json.number s) = IfRead-map (λ _. ⊤) Rises number (λ a x. tt) (number_of s) (always (number_of s))
   Rises-of_json (json.string s) = tt
   Rises-of_json (json.array js) = IfRead-map RiseItems Rises array (λ a x. x) (of_items js) (Rises-of_items js)
-  Rises-of_json (json.object ms) = IfRead-map HasRisingKeys Rises object (λ a x. x) (of_members ms no_members) (Rises-of_members ms no_members (refl, tt))
+  Rises-of_json (json.object ms) = IfRead-map HasRisingKeys Rises object (λ a x. x) (of_members ms no_members)
+      (Rises-of_members ms no_members (refl, tt))
 
   Rises-of_items : (js : json.Items) → IfRead RiseItems (of_items js)
   Rises-of_items json.no_items = tt
   Rises-of_items (json.item j js) =
-      IfRead-and_then Rises RiseItems _ (λ d x. IfRead-map RiseItems RiseItems (item d) (λ ds y. (x, y)) (of_items js) (Rises-of_items js)) (of_json j) (Rises-of_json j)
+      IfRead-and_then Rises RiseItems _ (λ d x. IfRead-map RiseItems RiseItems (item d) (λ ds y. (x, y)) (of_items js)
+      (Rises-of_items js)) (of_json j) (Rises-of_json j)
 
-  Rises-of_members : (ms : json.Members) (found : Members) → HasRisingKeys found → IfRead HasRisingKeys (of_members ms found)
+  Rises-of_members : (ms : json.Members) (found : Members) → HasRisingKeys found
+      → IfRead HasRisingKeys (of_members ms found)
   Rises-of_members json.no_members found rises = rises
   Rises-of_members (json.member name j ms) found rises =
-      IfRead-and_then Rises HasRisingKeys _ (λ d x. Rises-of_members ms (put name d found) (keys_rise-put name d found rises.0, members_rise-put name d found x rises.1)) (of_json j) (Rises-of_json j)
+      IfRead-and_then Rises HasRisingKeys _ (λ d x. Rises-of_members ms (put name d found) (
+        keys_rise-put name d found rises.0,
+        members_rise-put name d found x rises.1,
+      )) (of_json j) (Rises-of_json j)
 
 -- the keys of what was read rise
 pub Rises-read : (bytes : List ℕ) (d : Data) → read bytes ≡ Some d → Rises d
@@ -150,7 +170,8 @@ mutual
   largest-items_of no_items = refl
   largest-items_of (item d ds) = rw (depth_of-json_of d, largest-items_of ds)
 
-  largest-pairs_of : (ms : Members) → largest (map (λ pair. pair.1) (map (with_value depth_of) (pairs_of ms))) ≡ members_depth ms
+  largest-pairs_of : (ms : Members)
+      → largest (map (λ pair. pair.1) (map (with_value depth_of) (pairs_of ms))) ≡ members_depth ms
   largest-pairs_of no_members = refl
   largest-pairs_of (member key d ms) = rw (depth_of-json_of d, largest-pairs_of ms)
 
@@ -158,7 +179,8 @@ keys_of-pairs_of : (ms : Members) → map (λ pair. pair.0) (map (with_value is_
 keys_of-pairs_of no_members = refl
 keys_of-pairs_of (member key d ms) = ap (λ keys. key ∷ keys) (keys_of-pairs_of ms)
 
-is_canonical-read : (n : Num) (read_as : Option ℤ) → whole_number_of n ≡ read_as → is_some read_as ≡ true → is_canonical (Whole (unwrap_or read_as (pos 0))) ≡ true
+is_canonical-read : (n : Num) (read_as : Option ℤ) → whole_number_of n ≡ read_as → is_some read_as ≡ true
+    → is_canonical (Whole (unwrap_or read_as (pos 0))) ≡ true
 is_canonical-read n None is whole = absurd cc
 is_canonical-read n (Some z) is whole = is_canonical-Whole z ∙ le-leb _ _ (whole_number_of-some n z is)
 
@@ -173,22 +195,27 @@ mutual
   is_canonical-json_of (string bytes) whole rises = search (rules, the_lemmas)
   is_canonical-json_of (array ds) whole rises = is_canonical-List _ ∙ canonical-items_of ds whole rises
   is_canonical-json_of (object ms) whole rises =
-      let keys : are_rising (map (λ pair. pair.0) (map (with_value is_canonical) (pairs_of ms))) ≡ true = rw (keys_of-pairs_of ms) rises.0 in
+      let keys : are_rising (map (λ pair. pair.0) (map (with_value is_canonical) (pairs_of ms))) ≡ true =
+      rw (keys_of-pairs_of ms) rises.0 in
       is_canonical-Object _ ∙ and_from _ _ keys (canonical-pairs_of ms whole rises.1)
 
-  canonical-items_of : (ds : Items) → all_whole_items ds ≡ true → RiseItems ds → list_all (λ member_is. member_is) (map is_canonical (items_of ds)) ≡ true
+  canonical-items_of : (ds : Items) → all_whole_items ds ≡ true → RiseItems ds
+      → list_all (λ member_is. member_is) (map is_canonical (items_of ds)) ≡ true
   canonical-items_of no_items whole rises = refl
   canonical-items_of (item d ds) whole rises =
       let parts = and_parts (all_whole d) (all_whole_items ds) whole in
       and_from _ _ (is_canonical-json_of d parts.0 rises.0) (canonical-items_of ds parts.1 rises.1)
 
-  canonical-pairs_of : (ms : Members) → all_whole_members ms ≡ true → RiseMembers ms → list_all (λ pair. pair.1) (map (with_value is_canonical) (pairs_of ms)) ≡ true
+  canonical-pairs_of : (ms : Members) → all_whole_members ms ≡ true → RiseMembers ms
+      → list_all (λ pair. pair.1) (map (with_value is_canonical) (pairs_of ms)) ≡ true
   canonical-pairs_of no_members whole rises = refl
   canonical-pairs_of (member key d ms) whole rises =
       let parts = and_parts (all_whole d) (all_whole_members ms) whole in
       and_from _ _ (is_canonical-json_of d parts.0 rises.0) (canonical-pairs_of ms parts.1 rises.1)
 
 -- what is read as a whole value is valid, where it is nested at most 127 deep
-pub is_valid-json_of : (bytes : List ℕ) (d : Data) → read bytes ≡ Some d → all_whole d ≡ true → has_utf8 (json_of d) ≡ true → depth d ≤ 127 → is_valid (json_of d) ≡ true
+pub is_valid-json_of : (bytes : List ℕ) (d : Data) → read bytes ≡ Some d → all_whole d ≡ true
+    → has_utf8 (json_of d) ≡ true → depth d ≤ 127 → is_valid (json_of d) ≡ true
 is_valid-json_of bytes d is whole utf8 within =
-    is_valid_from (json_of d) (is_canonical-json_of d whole (Rises-read bytes d is)) utf8 (omega (arith, depth_of-json_of d))
+    is_valid_from (json_of d) (is_canonical-json_of d whole (Rises-read bytes d is)) utf8
+    (omega (arith, depth_of-json_of d))

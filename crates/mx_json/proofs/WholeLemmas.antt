@@ -1,5 +1,7 @@
 -- Reading a value whose numbers are whole, member by member.
-use Rattle.std.proofs.Common.{◌≡◌, ◌⊎◌, inl, inr, ℕ, ◌≤◌, ℤ, nat_abs, pos, negsuc, w64, to_z, of_z, FitsSigned, Bool, true, false, List, [], ◌∷◌, ◌++◌, length, append_assoc, append-nil, Some, None, Ok, Err, String, Vec, BTreeMap, Global, string_bytes, arith, refl, rules}
+use Rattle.std.proofs.Common.{◌≡◌, ◌⊎◌, inl, inr, ℕ, ◌≤◌, ℤ, nat_abs, pos, negsuc, w64, to_z, of_z, FitsSigned, Bool}
+use Rattle.std.proofs.Common.{true, false, List, [], ◌∷◌, ◌++◌, length, append_assoc, append-nil, Some, None, Ok, Err}
+use Rattle.std.proofs.Common.{String, Vec, BTreeMap, Global, string_bytes, arith, refl, rules}
 use Rattle.std.proofs.lemmas.Bool.{leb-true}
 use Rattle.std.proofs.lemmas.Int.{to_z-of_z}
 use Rattle.std.proofs.lemmas.Option.{cond_some, option_and_then_some}
@@ -14,7 +16,8 @@ use Rattle.mx_json.specs.declared.reading.JsonError.{JsonError}
 use Rattle.mx_json.specs.declared.reading.JsonError.TheVariants.{NotWhole}
 use Rattle.mx_json.specs.declared.value.Json.{Json, Null, Truth, Whole, Text, List as ListOf, Object}
 use Rattle.mx_json.specs.Json.{is_whole}
-use Rattle.mx_json.specs.Reading.{in_range, all_whole, all_whole_items, all_whole_members, items_of, json_of, pairs_of, whole_items, whole_json, whole_number_of, whole_or, whole_pairs}
+use Rattle.mx_json.specs.Reading.{in_range, all_whole, all_whole_items, all_whole_members, items_of, json_of, pairs_of}
+use Rattle.mx_json.specs.Reading.{whole_items, whole_json, whole_number_of, whole_or, whole_pairs}
 
 -- ---- plain values
 
@@ -42,11 +45,13 @@ pub whole_json-String : (text : String Global) → whole_json (view (value.Strin
 unfolding whole_json
 whole_json-String text = rw view-String
 
-pub whole_json-Number : (n : Number) (z : ℤ) → whole_number_of (number_view n) ≡ Some z → whole_json (view (value.Number n)) ≡ Ok (Whole z)
+pub whole_json-Number : (n : Number) (z : ℤ) → whole_number_of (number_view n) ≡ Some z
+    → whole_json (view (value.Number n)) ≡ Ok (Whole z)
 unfolding whole_json
 whole_json-Number n z is = rw (view-Number n, is)
 
-pub whole_json-no_whole : (n : Number) → whole_number_of (number_view n) ≡ None → whole_json (view (value.Number n)) ≡ Err NotWhole
+pub whole_json-no_whole : (n : Number) → whole_number_of (number_view n) ≡ None
+    → whole_json (view (value.Number n)) ≡ Err NotWhole
 unfolding whole_json
 whole_json-no_whole n is = rw (view-Number n, is)
 
@@ -69,11 +74,13 @@ to_z-of_whole n z is = to_z-of_z w64 z (fits_64 z (whole_number_of-some n z is))
 
 -- ---- what an answer tells
 
-whole_or-ok : {A : Type 0} (is_whole : Bool) (value found : A) → whole_or is_whole value ≡ Ok found → (is_whole ≡ true) × (value ≡ found)
+whole_or-ok : {A : Type 0} (is_whole : Bool) (value found : A) → whole_or is_whole value ≡ Ok found
+    → (is_whole ≡ true) × (value ≡ found)
 whole_or-ok true value found is = (refl, cc)
 whole_or-ok false value found is = absurd cc
 
-whole_or-err : {A : Type 0} (is_whole : Bool) (value : A) (error : JsonError) → whole_or is_whole value ≡ Err error → (is_whole ≡ false) × (error ≡ NotWhole)
+whole_or-err : {A : Type 0} (is_whole : Bool) (value : A) (error : JsonError) → whole_or is_whole value ≡ Err error
+    → (is_whole ≡ false) × (error ≡ NotWhole)
 whole_or-err true value error is = absurd cc
 whole_or-err false value error is = (refl, cc)
 
@@ -92,12 +99,14 @@ told_by_part f (inr m) = inr m
 
 -- ---- the members of a list
 
-whole_items-item : (done : List Json) (d : Data) (json : Json) (ds : Items) → whole_json d ≡ Ok json → whole_items done (item d ds) ≡ whole_items (done ++ json ∷ []) ds
+whole_items-item : (done : List Json) (d : Data) (json : Json) (ds : Items) → whole_json d ≡ Ok json
+    → whole_items done (item d ds) ≡ whole_items (done ++ json ∷ []) ds
 unfolding whole_items
 whole_items-item done d json ds is =
     let told = whole_json-ok d json is in rw (told.0, told.1, append_assoc)
 
-whole_items-no_whole : (done : List Json) (d : Data) (error : JsonError) (ds : Items) → whole_json d ≡ Err error → whole_items done (item d ds) ≡ Err error
+whole_items-no_whole : (done : List Json) (d : Data) (error : JsonError) (ds : Items) → whole_json d ≡ Err error
+    → whole_items done (item d ds) ≡ Err error
 unfolding whole_items
 whole_items-no_whole done d error ds is =
     let told = whole_json-err d error is in rw (told.0, told.1)
@@ -118,13 +127,15 @@ pub whole_items-all : (done : List Json) (vs : List Value) → length vs ≡ 0 �
 whole_items-all done [] none = whole_items-end done
 whole_items-all done (v ∷ vs) none = absurd (omega (arith, none))
 
-pub whole_json-Array : (v : Vec Value Global) (items : List Json) → whole_items [] (items_view v.items) ≡ Ok items → whole_json (view (value.Array v)) ≡ Ok (ListOf record { items = items })
+pub whole_json-Array : (v : Vec Value Global) (items : List Json) → whole_items [] (items_view v.items) ≡ Ok items
+    → whole_json (view (value.Array v)) ≡ Ok (ListOf record { items = items })
 unfolding whole_json whole_items
 whole_json-Array v items is =
     let told = whole_or-ok (all_whole_items (items_view v.items)) (items_of (items_view v.items)) items is in
     rw (view-Array v, told.0, told.1)
 
-pub whole_json-Array_stops : (v : Vec Value Global) (error : JsonError) → whole_items [] (items_view v.items) ≡ Err error → whole_json (view (value.Array v)) ≡ Err error
+pub whole_json-Array_stops : (v : Vec Value Global) (error : JsonError)
+    → whole_items [] (items_view v.items) ≡ Err error → whole_json (view (value.Array v)) ≡ Err error
 unfolding whole_json whole_items
 whole_json-Array_stops v error is =
     let told = whole_or-err (all_whole_items (items_view v.items)) (items_of (items_view v.items)) error is in
@@ -135,12 +146,16 @@ whole_json-Array_stops v error is =
 abbrev Pair : Type 0
 Pair = List ℕ × Json
 
-pub whole_pairs-more : (done : List Pair) (entry : String Global × Value) (rest : List (String Global × Value)) (json : Json) → whole_json (view entry.1) ≡ Ok json → whole_pairs done (members_view (entry ∷ rest)) ≡ whole_pairs (done ++ (string_bytes entry.0, json) ∷ []) (members_view rest)
+pub whole_pairs-more : (done : List Pair) (entry : String Global × Value) (rest : List (String Global × Value))
+    (json : Json) → whole_json (view entry.1) ≡ Ok json → whole_pairs done (members_view (entry ∷ rest))
+    ≡ whole_pairs (done ++ (string_bytes entry.0, json) ∷ []) (members_view rest)
 unfolding whole_pairs
 whole_pairs-more done entry rest json is =
     let told = whole_json-ok (view entry.1) json is in rw (told.0, told.1, append_assoc)
 
-pub whole_pairs-stops : (done : List Pair) (entry : String Global × Value) (rest : List (String Global × Value)) (error : JsonError) → whole_json (view entry.1) ≡ Err error → whole_pairs done (members_view (entry ∷ rest)) ≡ Err error
+pub whole_pairs-stops : (done : List Pair) (entry : String Global × Value) (rest : List (String Global × Value))
+    (error : JsonError) → whole_json (view entry.1) ≡ Err error
+    → whole_pairs done (members_view (entry ∷ rest)) ≡ Err error
 unfolding whole_pairs
 whole_pairs-stops done entry rest error is =
     let told = whole_json-err (view entry.1) error is in rw (told.0, told.1)
@@ -149,13 +164,16 @@ pub whole_pairs-all : (done : List Pair) → whole_pairs done (members_view []) 
 unfolding whole_pairs
 whole_pairs-all done = rw append-nil
 
-pub whole_json-Object : (m : BTreeMap (String Global) Value) (pairs : List Pair) → whole_pairs [] (members_view m.entries) ≡ Ok pairs → whole_json (view (value.Object m)) ≡ Ok (Object record { pairs = pairs })
+pub whole_json-Object : (m : BTreeMap (String Global) Value) (pairs : List Pair)
+    → whole_pairs [] (members_view m.entries) ≡ Ok pairs
+    → whole_json (view (value.Object m)) ≡ Ok (Object record { pairs = pairs })
 unfolding whole_json whole_pairs
 whole_json-Object m pairs is =
     let told = whole_or-ok (all_whole_members (members_view m.entries)) (pairs_of (members_view m.entries)) pairs is in
     rw (view-Object m, told.0, told.1)
 
-pub whole_json-Object_stops : (m : BTreeMap (String Global) Value) (error : JsonError) → whole_pairs [] (members_view m.entries) ≡ Err error → whole_json (view (value.Object m)) ≡ Err error
+pub whole_json-Object_stops : (m : BTreeMap (String Global) Value) (error : JsonError)
+    → whole_pairs [] (members_view m.entries) ≡ Err error → whole_json (view (value.Object m)) ≡ Err error
 unfolding whole_json whole_pairs
 whole_json-Object_stops m error is =
     let told = whole_or-err (all_whole_members (members_view m.entries)) (pairs_of (members_view m.entries)) error is in

@@ -1,4 +1,5 @@
--- The canonical text of a value: the Matrix specification's appendix 'Canonical JSON', with the escapes of RFC 8259 that it asks for.
+-- The canonical text of a value: the Matrix specification's appendix 'Canonical JSON',
+-- with the escapes of RFC 8259 that it asks for.
 use Rattle.std.specs.Prelude.{ℕ, if◌then◌else◌, List, ◌∷◌, ◌++◌, map, codes}
 use Rattle.std.specs.Fmt.{signed_decimal}
 use Rattle.std.specs.List.{join_with_byte}
@@ -14,8 +15,9 @@ comma = 44
 abbrev pub colon : ℕ
 colon = 58
 
--- A text is quoted: `"` and `\` stand behind a backslash, U+0008, U+000C, U+000A, U+000D and U+0009 are `\b`, `\f`, `\n`, `\r` and `\t`, other characters below U+0020 are `\u00` and two lower-case hexadecimal digits, and all else stands as itself.
--- What stands between the brackets of a list or the braces of an object is told below.
+-- A text is quoted: `"` and `\` stand behind a backslash, U+0008, U+000C, U+000A, U+000D and U+0009 are `\b`, `\f`,
+-- `\n`, `\r` and `\t`, other characters below U+0020 are `\u00` and two lower-case hexadecimal digits, and all else
+-- stands as itself. What stands between the brackets of a list or the braces of an object is told below.
 abbrev pub value_text : Json-F (List ℕ) (List ℕ) (List ℕ) → List ℕ
 value_text Json-F.Null = codes "null"
 value_text (Json-F.Truth truth) = if truth then codes "true" else codes "false"

@@ -1,4 +1,5 @@
--- A folded text as its characters (The Unicode Standard, section 3.13, toCasefold), and how a count of reads rises: ours.
+-- A folded text as its characters (The Unicode Standard, section 3.13, toCasefold),
+-- and how a count of reads rises: ours.
 use Rattle.std.specs.Prelude.{ℕ, ◌+◌, ◌-◌, ◌^◌, ◌≤◌, List, chars, min}
 use Rattle.caseless.specs.Caseless.{default_case_fold}
 

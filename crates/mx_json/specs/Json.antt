@@ -1,5 +1,8 @@
--- What a JSON value holds, how deep it is nested, and when it is valid: RFC 8259, with the numbers and the order of keys of Matrix's canonical JSON.
-use Rattle.std.specs.Prelude.{◌≡◌, ◌<◌, length, slice_get, option_map, ℕ, suc, max, ℤ, nat_abs, nat_le, Bool, true, false, ◌&&◌, if◌then◌else◌, List, [], ◌∷◌, map, Option, Some, None, option_and_then, unwrap_or}
+-- What a JSON value holds, how deep it is nested, and when it is valid:
+-- RFC 8259, with the numbers and the order of keys of Matrix's canonical JSON.
+use Rattle.std.specs.Prelude.{◌≡◌, ◌<◌, length, slice_get, option_map, ℕ, suc, max, ℤ, nat_abs, nat_le, Bool, true}
+use Rattle.std.specs.Prelude.{false, ◌&&◌, if◌then◌else◌, List, [], ◌∷◌, map, Option, Some, None, option_and_then}
+use Rattle.std.specs.Prelude.{unwrap_or}
 use Rattle.std.specs.Cmp.Lexicographic.{slice_cmp}
 use Rattle.std.specs.List.{list_all}
 use Rattle.std.specs.Ordering.{is_lt, nat_cmp}

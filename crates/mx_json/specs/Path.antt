@@ -1,5 +1,7 @@
--- What segments a property path is cut into, and the value that it leads to: the Client-Server API v1.11, 'Dot-separated property paths'; that lists aren't entered is ours.
-use Rattle.std.specs.Prelude.{ℕ, ◌==◌, ◌||◌, Bool, true, false, if◌then◌else◌, List, [], ◌∷◌, ◌++◌, Option, Some, option_and_then}
+-- What segments a property path is cut into, and the value that it leads to:
+-- the Client-Server API v1.11, 'Dot-separated property paths'; that lists aren't entered is ours.
+use Rattle.std.specs.Prelude.{ℕ, ◌==◌, ◌||◌, Bool, true, false, if◌then◌else◌, List, [], ◌∷◌, ◌++◌, Option, Some}
+use Rattle.std.specs.Prelude.{option_and_then}
 use Rattle.mx_json.specs.declared.value.Json.{Json}
 use Rattle.mx_json.specs.Json.{member}
 
@@ -24,11 +26,13 @@ in_front bytes (segment ∷ segments) = (bytes ++ segment) ∷ segments
 
 -- a byte, and the segments of what follows: a full stop ends a segment, and a backslash waits for the next byte
 abbrev pub with_byte : ℕ → List (List ℕ) → List (List ℕ)
-with_byte byte segments = if byte == full_stop then [] ∷ segments else (if byte == backslash then segments else in_front (byte ∷ []) segments)
+with_byte byte segments =
+    if byte == full_stop then [] ∷ segments else (if byte == backslash then segments else in_front (byte ∷ []) segments)
 
 -- the byte after a backslash, and the segments of what follows
 abbrev pub with_escaped : ℕ → List (List ℕ) → List (List ℕ)
-with_escaped byte segments = if is_escapable byte then in_front (byte ∷ []) segments else in_front (backslash ∷ byte ∷ []) segments
+with_escaped byte segments =
+    if is_escapable byte then in_front (byte ∷ []) segments else in_front (backslash ∷ byte ∷ []) segments
 
 -- the segments of what is left of a text, where a backslash waits (`true`) or none does
 unfoldable pub segments_left : Bool → List ℕ → List (List ℕ)

@@ -1,8 +1,11 @@
--- What bytes are read as a JSON value: RFC 8259 as `serde_json` reads it, with numbers that are whole; the rest is ours.
-use Rattle.std.specs.Prelude.{ℕ, ℤ, pos, nat_le, Bool, true, ◌&&◌, if◌then◌else◌, List, [], ◌∷◌, ◌++◌, Option, Some, None, is_some, option_and_then, unwrap_or, Result, Ok, Err}
+-- What bytes are read as a JSON value: RFC 8259 as `serde_json` reads it,
+-- with numbers that are whole; the rest is ours.
+use Rattle.std.specs.Prelude.{ℕ, ℤ, pos, nat_le, Bool, true, ◌&&◌, if◌then◌else◌, List, [], ◌∷◌, ◌++◌, Option, Some}
+use Rattle.std.specs.Prelude.{None, is_some, option_and_then, unwrap_or, Result, Ok, Err}
 use Rattle.std.specs.Option.{option_map_or}
 use Rattle.std.specs.Str.{is_utf8}
-use Rattle.serde_json.specs.Data.{Num, Data, null, boolean, number, string, array, object, Items, no_items, item, Members, no_members, member, depth}
+use Rattle.serde_json.specs.Data.{Num, Data, null, boolean, number, string, array, object, Items, no_items, item}
+use Rattle.serde_json.specs.Data.{Members, no_members, member, depth}
 use Rattle.serde_json.specs.Find.{as_i64}
 use Rattle.serde_json.specs.Read.{read}
 use Rattle.mx_json.specs.declared.reading.JsonError.{JsonError}

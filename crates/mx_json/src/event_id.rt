@@ -30,7 +30,8 @@ impl EventId {
     ///
     /// # Errors
     ///
-    /// `BadId` exactly where the text isn't an event id; `OutOfMemory` where the allocator has none.
+    /// `BadId` exactly where the text isn't an event id;
+    /// `OutOfMemory` where the allocator has none.
     pub fn read(alloc: Global, text: &str) -> Result<EventId, IdError>
         ensures { Gives IdError.OutOfMemory result (read_event_id text.now) }
     {

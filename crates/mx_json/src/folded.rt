@@ -1,4 +1,5 @@
-ghost use Rattle.std.specs.Prelude.{◌≡◌, ◌^◌, ◌<◌, ◌≤◌, ◌↔◌, [], ◌++◌, length, slice_get, IfOk, OnOk, OnErr, IsAscii, IsTrue};
+ghost use Rattle.std.specs.Prelude.{◌≡◌, ◌^◌, ◌<◌, ◌≤◌, ◌↔◌, [], ◌++◌, length, slice_get, IfOk};
+ghost use Rattle.std.specs.Prelude.{OnOk, OnErr, IsAscii, IsTrue};
 ghost use Rattle.ucd_case.specs.CaseFolding.{full_fold};
 ghost use Rattle.mx_json.specs.Folded.{folded, next_count};
 

@@ -2,7 +2,8 @@
 
 ghost use Rattle.std.specs.Prelude.{◌≡◌, true, map, is_some, option_map, IfSome, MatchOption};
 ghost use Rattle.std.specs.Option.{option_copied};
-ghost use Rattle.mx_json.specs.Json.{are_rising, is_valid, list_at, member, member_at, member_in, text_at, text_or_empty, truth_at, whole_at, IsMemberAt};
+ghost use Rattle.mx_json.specs.Json.{are_rising, is_valid, list_at, member, member_at, member_in};
+ghost use Rattle.mx_json.specs.Json.{text_at, text_or_empty, truth_at, whole_at, IsMemberAt};
 
 use crate::text::JsonText;
 use crate::value::{Json, JsonList, JsonObject};

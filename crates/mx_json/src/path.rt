@@ -1,4 +1,5 @@
-ghost use Rattle.std.specs.Prelude.{◌≡◌, true, false, List, [], ◌∷◌, ℕ, ◌++◌, encode_utf8, string_bytes, IfOk, IfSome, OnOk};
+ghost use Rattle.std.specs.Prelude.{◌≡◌, true, false, List, [], ◌∷◌, ℕ, ◌++◌, encode_utf8};
+ghost use Rattle.std.specs.Prelude.{string_bytes, IfOk, IfSome, OnOk};
 ghost use Rattle.std.specs.Option.{option_copied};
 ghost use Rattle.mx_json.specs.Json.{is_valid};
 ghost use Rattle.mx_json.specs.Path.{is_escapable, segments, look};

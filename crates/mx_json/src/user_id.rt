@@ -1,7 +1,8 @@
 ghost use Rattle.std.specs.Prelude.{◌≡◌, ◌≢◌, true, ℕ, List, IfOk, MatchOption};
 ghost use Rattle.std.specs.Option.{option_copied};
 ghost use Rattle.mx_json.specs.Gives.{Gives};
-ghost use Rattle.mx_json.specs.Ids.{is_local, is_localpart, is_localpart_byte, is_user_id, local_user, localpart_of, read_user_id};
+ghost use Rattle.mx_json.specs.Ids.{is_local, is_localpart, is_localpart_byte, is_user_id};
+ghost use Rattle.mx_json.specs.Ids.{local_user, localpart_of, read_user_id};
 
 use crate::id::{IdError, begins_with, has_length_of_an_id};
 use crate::memory::OutOfMemory;

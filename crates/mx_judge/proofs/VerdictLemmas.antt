@@ -1,5 +1,6 @@
 -- The rule at the place of the first match is the one that gives the verdict.
-use Rattle.std.proofs.Common.{◌≡◌, ℕ, suc, ◌+◌, Bool, List, [], ◌∷◌, ◌++◌, filter, Option, Some, None, inl, inr, refl, sym, ap, ◌∙◌, add-zero, zero-add, slice_get, arith}
+use Rattle.std.proofs.Common.{◌≡◌, ℕ, suc, ◌+◌, Bool, List, [], ◌∷◌, ◌++◌, filter, Option, Some, None, inl, inr, refl}
+use Rattle.std.proofs.Common.{sym, ap, ◌∙◌, add-zero, zero-add, slice_get, arith}
 use Rattle.std.specs.List.{flat_map}
 use Rattle.std.proofs.lemmas.Bool.{cases_Bool}
 use Rattle.std.proofs.lemmas.Option.{same_Some}
@@ -9,7 +10,8 @@ use Rattle.mx_rule.specs.declared.kind.RulePlace.{RulePlace}
 use Rattle.mx_rule.specs.Actions.{no_notification, verdict_of}
 use Rattle.mx_rule.specs.Judged.{IsVerdict}
 use Rattle.mx_rule.specs.Rule.{PushRule}
-use Rattle.mx_rule.specs.Ruleset.{IsFirstMatch, Placed, PushRuleset, by_importance, flat, is_given, is_master, is_own, kinds, placed, placed_from, rules_of_kind}
+use Rattle.mx_rule.specs.Ruleset.{IsFirstMatch, Placed, PushRuleset, by_importance, flat, is_given, is_master, is_own}
+use Rattle.mx_rule.specs.Ruleset.{kinds, placed, placed_from, rules_of_kind}
 
 -- the rule at a place
 abbrev rule_at : PushRuleset → RulePlace → Option PushRule

@@ -1,12 +1,15 @@
 -- Lemmas on what a run acknowledges.
-use Rattle.std.proofs.Common.{◌≡◌, ℕ, ◌+◌, ◌<◌, ◌≤◌, ◌⊎◌, inl, inr, Bool, true, false, cond, if◌then◌else◌, List, [], ◌∷◌, ◌++◌, Some, length, take, refl, sym, ap, ap₂, ◌∙◌, arith, suc, zero, add-one}
+use Rattle.std.proofs.Common.{◌≡◌, ℕ, ◌+◌, ◌<◌, ◌≤◌, ◌⊎◌, inl, inr, Bool, true, false, cond, if◌then◌else◌, List, []}
+use Rattle.std.proofs.Common.{◌∷◌, ◌++◌, Some, length, take, refl, sym, ap, ap₂, ◌∙◌, arith, suc, zero, add-one}
 use Rattle.std.specs.List.{slice_get, filter, count_by}
 use Rattle.std.proofs.lemmas.List.{append-nil, take-append-le}
 use Rattle.std.proofs.lemmas.List.Sums.{length-filter, sum_by_push}
 use Rattle.mx_records.specs.History.{History}
 use Rattle.mx_lines.specs.Lines.{IsOneLine, with_feed}
 use Rattle.mx_lines.specs.Admission.{after, reply}
-use Rattle.mx_lines.specs.Runs.{Run, Point, is_answer, past_begun, past_line, past, point_of, point_at, point_now, input_lines, output_lines, begun, last_line, acknowledged, answers_begun, after_lines, told}
+use Rattle.mx_lines.specs.Runs.{Run, Point, is_answer, past_begun, past_line, past, point_of, point_at, point_now}
+use Rattle.mx_lines.specs.Runs.{input_lines, output_lines, begun, last_line, acknowledged, answers_begun, after_lines}
+use Rattle.mx_lines.specs.Runs.{told}
 use Rattle.mx_lines.specs.Laws.{IsTurn, LineLaws, WholeLaws, IsLawful, Agrees}
 use Rattle.mx_lines.proofs.LinesLemmas.{IsOneLine-take}
 use Rattle.mx_lines.proofs.RunsLemmas.{begun-part, point_now-part}
@@ -17,7 +20,8 @@ use Rattle.mx_lines.proofs.ReplyLemmas.{is_answer-reply}
 pub acknowledged-whole : (server : List ℕ) (h0 : History) (run : Run) (now : History) → Agrees server h0 run now
     → acknowledged server h0 run ≡ now
 acknowledged-whole server h0 run now agrees =
-    ap (λ (part : List ℕ). (past_begun server (input_lines run) (point_now server h0 run) part).history) agrees.at_line_end
+    ap (λ (part : List ℕ). (past_begun server (input_lines run) (point_now server h0 run) part).history)
+    agrees.at_line_end
     ∙ agrees.history
 
 is_answer-take : (out : List ℕ) (k : ℕ) → 0 < k → is_answer out ≡ true → is_answer (take k out) ≡ true
@@ -34,7 +38,8 @@ acknowledged-part : (server : List ℕ) (h0 : History) (run : Run) (part line : 
     → is_answer part ≡ true → IsNext server h0 run line
     → acknowledged server h0 (told run part) ≡ after server (point_now server h0 run).history line
 acknowledged-part server h0 run part line at_end one answer next =
-    ap (λ (b : List ℕ). (past_begun server (input_lines run) (point_now server h0 (told run part)) b).history) (begun-part run part at_end one)
+    ap (λ (b : List ℕ). (past_begun server (input_lines run) (point_now server h0 (told run part)) b).history)
+    (begun-part run part at_end one)
     ∙ ap (λ (p : Point). (past_begun server (input_lines run) p part).history) (point_now-part server h0 run part one)
     ∙ past_begun-answer server (input_lines run) (point_now server h0 run) part line answer next
 
@@ -45,7 +50,8 @@ pub acknowledged-begun : (server : List ℕ) (h0 : History) (run : Run) (now : H
     → acknowledged server h0 (told run (take count (with_feed (reply server now line)))) ≡ after server now line
 acknowledged-begun server h0 run now line count agrees next one some within =
     rw (take-append-le count (reply server now line) (10 ∷ []) within)
-    (acknowledged-part server h0 run (take count (reply server now line)) line agrees.at_line_end (IsOneLine-take count (reply server now line) one)
+    (acknowledged-part server h0 run (take count (reply server now line)) line agrees.at_line_end
+    (IsOneLine-take count (reply server now line) one)
     (is_answer-take (reply server now line) count some (is_answer-reply server now line)) next
     ∙ ap (λ (h : History). after server h line) agrees.history)
 
@@ -90,7 +96,8 @@ point-next : (server : List ℕ) (h0 : History) (inputs : List (List ℕ)) (p : 
     → p ≡ point_after server h0 inputs k → IsAnswerTo server inputs p out
     → past_line server inputs p out ≡ point_after server h0 inputs (suc k)
 point-next server h0 inputs p out k is answer =
-    let at : slice_get inputs k ≡ Some answer.line = ap (λ (q : Point). slice_get inputs q.answered) (sym is) ∙ answer.at in
+    let at : slice_get inputs k ≡ Some answer.line =
+    ap (λ (q : Point). slice_get inputs q.answered) (sym is) ∙ answer.at in
     let history : after server p.history answer.line ≡ after_lines server h0 (take (suc k) inputs) =
     ap (λ (q : Point). after server q.history answer.line) is
     ∙ sym (after_lines-push server h0 (take k inputs) answer.line)
@@ -99,7 +106,8 @@ point-next server h0 inputs p out k is answer =
     past_line-answer server inputs p out answer.line answer.answer answer.at
     ∙ ap₂ (λ (h : History) (n : ℕ). record { history = h; answered = n }) history count
 
-point_at-after : (server : List ℕ) (h0 : History) (run : Run) → WholeLaws server h0 run → (k : ℕ) → k ≤ length (output_lines run)
+point_at-after : (server : List ℕ) (h0 : History) (run : Run) → WholeLaws server h0 run → (k : ℕ)
+    → k ≤ length (output_lines run)
     → point_at server h0 run k ≡ point_after server h0 (input_lines run) k
 unfolding point_of
 point_at-after server h0 run laws zero within = refl
@@ -121,13 +129,15 @@ count-answers : (server : List ℕ) (h0 : History) (run : Run) → WholeLaws ser
     → count_by is_answer (output_lines run) ≡ length (output_lines run)
 count-answers server h0 run laws =
     sym (length-filter is_answer (output_lines run))
-    ∙ ap length (all_answers (output_lines run) (λ k out at. (IsAnswerTo-by server h0 run k out (is_answer out) refl (laws k out at)).answer))
+    ∙ ap length (all_answers (output_lines run)
+    (λ k out at. (IsAnswerTo-by server h0 run k out (is_answer out) refl (laws k out at)).answer))
 
 -- so many of the input lines have an answer that was begun
 abbrev begun_count : Run → List ℕ → ℕ
 begun_count run part = count_by is_answer (output_lines run ++ last_line true part)
 
-count-begun : (outputs : List (List ℕ)) (part : List ℕ) (count : ℕ) → count_by is_answer outputs ≡ count → is_answer part ≡ true
+count-begun : (outputs : List (List ℕ)) (part : List ℕ) (count : ℕ) → count_by is_answer outputs ≡ count
+    → is_answer part ≡ true
     → count_by is_answer (outputs ++ part ∷ []) ≡ suc count
 count-begun outputs part count before answer =
     let pushed = sum_by_push (λ (out : List ℕ). cond (is_answer out) 1 0) outputs part in
@@ -150,7 +160,8 @@ acknowledged-by server h0 run (b ∷ part) laws (inr law) =
     let point = point_at-after server h0 run laws (length outputs) (omega arith) in
     let next = point-next server h0 (input_lines run) (point_now server h0 run) (b ∷ part) (length outputs) point
     (record { line = whole.line; answer = whole.answer; at = whole.at }) in
-    ap (λ (t : Bool). (if t then past_line server (input_lines run) (point_now server h0 run) (b ∷ part) else point_now server h0 run).history) whole.answer
+    ap (λ (t : Bool). (if t then past_line server (input_lines run) (point_now server h0 run) (b ∷ part)
+    else point_now server h0 run).history) whole.answer
     ∙ ap (λ (p : Point). p.history) next
     ∙ ap (λ (n : ℕ). after_lines server h0 (take n (input_lines run))) (sym count)
 

@@ -34,10 +34,15 @@ past_line-answer server inputs p out line answer next = rw (answer, next) refl
 pub point_now-answer : (server : List ℕ) (h0 : History) (run : Run) (now : History) (line : List ℕ)
     → Agrees server h0 run now → IsNext server h0 run line → IsOneLine (reply server now line)
     → point_now server h0 (told run (with_feed (reply server now line)))
-    ≡ record { history = after server (point_now server h0 run).history line; answered = (point_now server h0 run).answered + 1 }
+    ≡ record {
+      history = after server (point_now server h0 run).history line;
+      answered = (point_now server h0 run).answered + 1;
+    }
 point_now-answer server h0 run now line agrees next one =
-    point_now-told server h0 run (reply server now line) (HaveLines-laws server h0 run agrees.whole) agrees.at_line_end one
-    ∙ past_line-answer server (input_lines run) (point_now server h0 run) (reply server now line) line (is_answer-reply server now line) next
+    point_now-told server h0 run (reply server now line)
+    (HaveLines-laws server h0 run agrees.whole) agrees.at_line_end one
+    ∙ past_line-answer server (input_lines run) (point_now server h0 run) (reply server now line) line
+    (is_answer-reply server now line) next
 
 -- more input changes nothing of what was answered
 pub Agrees-more : (server : List ℕ) (h0 : History) (run new : Run) (more : List (List ℕ)) (now : History)
@@ -54,7 +59,8 @@ Agrees-more server h0 run new more now output inputs agrees =
     let count : length (output_lines new) ≡ length (output_lines run) = ap length outputs in
     let point : point_now server h0 new ≡ point_now server h0 run =
     ap (point_at server h0 new) count
-    ∙ point_at-grows server h0 run new grows (HaveLines-laws server h0 run agrees.whole) (length (output_lines run)) (omega arith) in (
+    ∙ point_at-grows server h0 run new grows (HaveLines-laws server h0 run agrees.whole) (length (output_lines run))
+    (omega arith) in (
       record {
         whole = WholeLaws-more server h0 run new more inputs outputs agrees.whole;
         at_line_end = ap (λ (bytes : List ℕ). (lines_of bytes).rest) output ∙ agrees.at_line_end;

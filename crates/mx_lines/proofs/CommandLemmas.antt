@@ -1,5 +1,6 @@
 -- The command of an input, by what the input is read as.
-use Rattle.std.proofs.Common.{◌≡◌, ◌⊎◌, inl, inr, Bool, true, Option, None, Some, option_and_then, Result, Ok, Err, refl, sym, ap, subst, ◌∙◌}
+use Rattle.std.proofs.Common.{◌≡◌, ◌⊎◌, inl, inr, Bool, true, Option, None, Some, option_and_then, Result, Ok, Err}
+use Rattle.std.proofs.Common.{refl, sym, ap, subst, ◌∙◌}
 use Rattle.std.specs.Option.{option_map_or}
 use Rattle.mx_json.specs.declared.value.Json.{Json}
 use Rattle.mx_event.specs.Event.{first_wrong}
@@ -10,7 +11,8 @@ use Rattle.mx_records.specs.declared.input_error.InputError.TheVariants as input
 use Rattle.mx_records.specs.declared.field_name.FieldName.TheVariants.{Cmd}
 use Rattle.mx_records.specs.declared.input_word.InputWord.{InputWord}
 use Rattle.mx_records.specs.declared.input_word.InputWord.TheVariants as word
-use Rattle.mx_records.specs.Forms.{Form, delete_form, enable_form, event_form, input_form_in, input_form_of, input_in, put_form, receipt_form, set_actions_form, value_of_form}
+use Rattle.mx_records.specs.Forms.{Form, delete_form, enable_form, event_form, input_form_in, input_form_of, input_in}
+use Rattle.mx_records.specs.Forms.{put_form, receipt_form, set_actions_form, value_of_form}
 use Rattle.mx_records.specs.InputWords.{input_word_in}
 use Rattle.mx_records.specs.Normal.{IsNormal}
 use Rattle.mx_records.specs.Refusing.{IsBuilt}
@@ -20,7 +22,8 @@ use Rattle.mx_lines.specs.declared.command.Command.{Command}
 use Rattle.mx_lines.specs.declared.command.Command.TheVariants.{Input as InputCommand}
 use Rattle.mx_lines.specs.declared.command.LineRefusal.{LineRefusal}
 use Rattle.mx_lines.specs.declared.command.LineRefusal.TheVariants.{BadField, NotBuilt}
-use Rattle.mx_lines.specs.Commands.{accepting_form_of, command_by, command_in, if_built, input_form, question_in, IsReadyInput}
+use Rattle.mx_lines.specs.Commands.{accepting_form_of, command_by, command_in, if_built, input_form, question_in}
+use Rattle.mx_lines.specs.Commands.{IsReadyInput}
 
 abbrev input_with : Option FieldName → Input → Result Input InputError
 input_with wrong input = option_map_or (λ field. Err (input_error.BadField field)) wrong (Ok input)
@@ -28,26 +31,32 @@ input_with wrong input = option_map_or (λ field. Err (input_error.BadField fiel
 abbrev command_with : Option FieldName → Input → Result Command LineRefusal
 command_with wrong input = option_map_or (λ field. Err (BadField field)) wrong (Ok (InputCommand input))
 
-right : (wrong : Option FieldName) (value input : Input) → input_with wrong value ≡ Ok input → command_with wrong value ≡ Ok (InputCommand input)
+right : (wrong : Option FieldName) (value input : Input) → input_with wrong value ≡ Ok input
+    → command_with wrong value ≡ Ok (InputCommand input)
 right None value input is = cc
 right (Some field) value input is = absurd cc
 
-wrong_at : (wrong : Option FieldName) (value : Input) (field : FieldName) → input_with wrong value ≡ Err (input_error.BadField field)
+wrong_at : (wrong : Option FieldName) (value : Input) (field : FieldName)
+    → input_with wrong value ≡ Err (input_error.BadField field)
     → command_with wrong value ≡ Err (BadField field)
 wrong_at None value field is = absurd cc
 wrong_at (Some first) value field is = cc
 
-input_in-by : (line : Json) (form : Form Input) → input_form_in line ≡ Some form → input_in line ≡ input_with (first_wrong form.fields) form.value
+input_in-by : (line : Json) (form : Form Input) → input_form_in line ≡ Some form
+    → input_in line ≡ input_with (first_wrong form.fields) form.value
 unfolding input_in
 input_in-by line form is = rw is
 
 -- an object that is read as an input gives its command
-pub command_by-right : (line : Json) (form : Form Input) (input : Input) → input_form_in line ≡ Some form → input_in line ≡ Ok input
+pub command_by-right : (line : Json) (form : Form Input) (input : Input) → input_form_in line ≡ Some form
+    → input_in line ≡ Ok input
     → command_by (input_form form) ≡ Ok (InputCommand input)
-command_by-right line form input is read = right (first_wrong form.fields) form.value input (sym (input_in-by line form is) ∙ read)
+command_by-right line form input is read =
+    right (first_wrong form.fields) form.value input (sym (input_in-by line form is) ∙ read)
 
 -- another is refused at the first wrong field
-pub command_by-wrong : (line : Json) (form : Form Input) (error : InputError) (field : FieldName) → input_form_in line ≡ Some form
+pub command_by-wrong : (line : Json) (form : Form Input) (error : InputError) (field : FieldName)
+    → input_form_in line ≡ Some form
     → error ≡ input_error.BadField field → (input_in line ≡ Err error) ⊎ (error ≡ input_error.OutOfMemory)
     → command_by (input_form form) ≡ Err (BadField field)
 command_by-wrong line form error field is at (inl read) =
@@ -120,7 +129,8 @@ command_in-built line of has other = by of has other
     with_form of form has is accepts = (
       form,
       ap (λ (of : Option InputWord). option_and_then (λ word. input_form_of word line) of) has ∙ is,
-      ap (λ (of : Option InputWord). option_map_or (λ word. if_built (accepting_form_of word line)) of (question_in line)) has
+      ap (λ (of : Option InputWord).
+          option_map_or (λ word. if_built (accepting_form_of word line)) of (question_in line)) has
           ∙ ap if_built accepts,
     )
 
@@ -139,5 +149,6 @@ pub command_in-pusher : (line : Json) (of : InputWord) → input_word_in line �
     → command_in line ≡ Err NotBuilt
 unfolding command_in
 command_in-pusher line of has is =
-    ap (λ (of : Option InputWord). option_map_or (λ word. if_built (accepting_form_of word line)) of (question_in line)) has
+    ap (λ (of : Option InputWord). option_map_or (λ word. if_built (accepting_form_of word line)) of (question_in line))
+    has
     ∙ ap (λ of. if_built (accepting_form_of of line)) is

@@ -1,12 +1,15 @@
 -- Lemmas on what a cutter holds.
-use Rattle.std.proofs.Common.{◌≡◌, ℕ, ◌+◌, ◌<◌, ◌≤◌, Bool, true, false, List, [], ◌∷◌, ◌++◌, length, map, take, drop, get_or, Option, None, Some, nat_le, if◌then◌else◌, ◌==◌, refl, sym, ap, ◌∙◌, suc, zero, arith}
+use Rattle.std.proofs.Common.{◌≡◌, ℕ, ◌+◌, ◌<◌, ◌≤◌, Bool, true, false, List, [], ◌∷◌, ◌++◌, length, map, take, drop}
+use Rattle.std.proofs.Common.{get_or, Option, None, Some, nat_le, if◌then◌else◌, ◌==◌, refl, sym, ap, ◌∙◌, suc, zero}
+use Rattle.std.proofs.Common.{arith}
 use Rattle.std.specs.List.{slice_get}
 use Rattle.std.proofs.Math.Seq.{drop-append_seam}
 use Rattle.std.proofs.lemmas.Bool.{lt-leb, leb-false, leb-true, eqb-true}
 use Rattle.std.proofs.lemmas.List.{length-append, take_more, take_all, drop_all, length-take-le}
 use Rattle.memchr.specs.Find.{NoneBefore, Nowhere, Passes, is_byte}
 use Rattle.mx_lines.specs.Lines.{Lines, lines_of, IsOneLine, with_feed}
-use Rattle.mx_lines.specs.Cutting.{longest_line, kept_of, kept_with, Held, nothing_held, taken_count, after_feed, HasGiven, CutsNext, IsNextLine, shown_count}
+use Rattle.mx_lines.specs.Cutting.{longest_line, kept_of, kept_with, Held, nothing_held, taken_count, after_feed}
+use Rattle.mx_lines.specs.Cutting.{HasGiven, CutsNext, IsNextLine, shown_count}
 use Rattle.mx_lines.specs.Buffers.{Shows}
 use Rattle.mx_lines.specs.declared.cut.Cut.{Cut}
 use Rattle.mx_lines.specs.declared.cut.Cut.TheVariants.{Line, TooLong, More}
@@ -33,24 +36,28 @@ pub HasGiven-start : HasGiven nothing_held (lines_of []) 0
 unfolding lines_of
 HasGiven-start = record { within = omega arith; ended = refl; rest = refl }
 
-no_more : (lines : List (List ℕ)) (count : ℕ) → count ≤ length lines → map kept_of (drop count lines) ≡ [] → length lines ≡ count
+no_more : (lines : List (List ℕ)) (count : ℕ) → count ≤ length lines → map kept_of (drop count lines) ≡ []
+    → length lines ≡ count
 no_more [] count within h = omega arith
 no_more (line ∷ lines) zero within h = cc
 no_more (line ∷ lines) (suc count) within h = let l = no_more lines count (omega arith) h in omega arith
 
 -- more bytes of the line that is held
 HasGiven-part : (kept : Option (List ℕ)) (bytes part : List ℕ) (count : ℕ) → IsOneLine part
-    → HasGiven (held kept false) (lines_of bytes) count → HasGiven (held (kept_with kept part) false) (lines_of (bytes ++ part)) count
+    → HasGiven (held kept false) (lines_of bytes) count
+    → HasGiven (held (kept_with kept part) false) (lines_of (bytes ++ part)) count
 HasGiven-part kept bytes part count one had =
     rw (lines_of-part bytes part one) (record {
       within = had.within;
       ended = had.ended;
-      rest = sym (kept_with-kept_of (lines_of bytes).rest part) ∙ ap (λ (k : Option (List ℕ)). kept_with k part) had.rest;
+      rest =
+          sym (kept_with-kept_of (lines_of bytes).rest part) ∙ ap (λ (k : Option (List ℕ)). kept_with k part) had.rest;
     })
 
 -- the end of the line that is held
 HasGiven-line : (kept : Option (List ℕ)) (bytes line : List ℕ) (count : ℕ) → IsOneLine line
-    → HasGiven (held kept false) (lines_of bytes) count → HasGiven (held (kept_with kept line) true) (lines_of (bytes ++ with_feed line)) count
+    → HasGiven (held kept false) (lines_of bytes) count
+    → HasGiven (held (kept_with kept line) true) (lines_of (bytes ++ with_feed line)) count
 HasGiven-line kept bytes line count one had =
     let all : length (lines_of bytes).whole ≡ count = no_more (lines_of bytes).whole count had.within had.ended in
     let last : kept_of ((lines_of bytes).rest ++ line) ≡ kept_with kept line =
@@ -78,7 +85,8 @@ IsOneLine-none piece none =
     let one = IsOneLine-take_none (length piece) piece (λ k below is. none k (omega arith) below is) in
     rw (take_all (length piece) piece (omega arith)) at one
 
-lines_of-first : (piece : List ℕ) (end : ℕ) → end < length piece → IsOneLine (take end piece) → (get_or piece end 0 == 10) ≡ true
+lines_of-first : (piece : List ℕ) (end : ℕ) → end < length piece → IsOneLine (take end piece)
+    → (get_or piece end 0 == 10) ≡ true
     → (later : List (List ℕ)) × ((lines_of piece).whole ≡ take end piece ∷ later)
 unfolding lines_of
 lines_of-first [] end within one at = absurd (omega arith)
@@ -88,17 +96,20 @@ lines_of-first (b ∷ piece) (suc end) within one at =
     rw (one.0, later.1) (later.0, refl)
 
 -- the bytes up to the first line feed are the first line
-pub first_line : (piece : List ℕ) (end : ℕ) → FirstFeed piece end → (later : List (List ℕ)) × ((lines_of piece).whole ≡ take end piece ∷ later)
+pub first_line : (piece : List ℕ) (end : ℕ) → FirstFeed piece end
+    → (later : List (List ℕ)) × ((lines_of piece).whole ≡ take end piece ∷ later)
 first_line piece end first = lines_of-first piece end first.0.high (IsOneLine-first piece end first) first.1
 
 -- what is taken of a piece whose first line feed is at this place, and what is held after
-pub taken_count-first : (kept : Option (List ℕ)) (ended : Bool) (piece : List ℕ) (end : ℕ) → ended ≡ false → FirstFeed piece end
+pub taken_count-first : (kept : Option (List ℕ)) (ended : Bool) (piece : List ℕ) (end : ℕ) → ended ≡ false
+    → FirstFeed piece end
     → taken_count (held kept ended) piece ≡ end + 1
 taken_count-first kept ended piece end going first =
     let within = first.0.high in
     rw (going, (first_line piece end first).1) (ap (λ (n : ℕ). n + 1) (length-take-le end piece (omega arith)))
 
-pub after_feed-first : (kept : Option (List ℕ)) (ended : Bool) (piece : List ℕ) (end : ℕ) → ended ≡ false → FirstFeed piece end
+pub after_feed-first : (kept : Option (List ℕ)) (ended : Bool) (piece : List ℕ) (end : ℕ) → ended ≡ false
+    → FirstFeed piece end
     → after_feed (held kept ended) piece ≡ held (kept_with kept (take end piece)) true
 after_feed-first kept ended piece end going first = rw (going, (first_line piece end first).1) refl
 
@@ -114,7 +125,8 @@ after_feed-none kept ended piece going none = rw (going, lines_of-one piece (IsO
 -- a line and its line feed stand at the front of the piece
 take-first : (piece : List ℕ) (end : ℕ) → FirstFeed piece end → take (end + 1) piece ≡ with_feed (take end piece)
 take-first piece end first =
-    take_more piece end 0 first.0.high ∙ ap (λ (b : ℕ). take end piece ++ b ∷ []) (eqb-true (get_or piece end 0) 10 first.1)
+    take_more piece end 0 first.0.high
+    ∙ ap (λ (b : ℕ). take end piece ++ b ∷ []) (eqb-true (get_or piece end 0) 10 first.1)
 
 -- the same lines are given after a feed
 pub HasGiven-first : (kept : Option (List ℕ)) (ended : Bool) (piece bytes : List ℕ) (count : ℕ) (end : ℕ)
@@ -131,7 +143,8 @@ HasGiven-none kept ended piece bytes count going none had =
     rw (take_all (length piece) piece (omega arith), going)
     (HasGiven-part kept bytes piece count (IsOneLine-none piece none) (rw going at had))
 
-kept_in_full : (line bytes : List ℕ) (t : Bool) → nat_le (length line) longest_line ≡ t → (if t then Some line else None) ≡ Some bytes
+kept_in_full : (line bytes : List ℕ) (t : Bool) → nat_le (length line) longest_line ≡ t
+    → (if t then Some line else None) ≡ Some bytes
     → (line ≡ bytes) × (length bytes ≤ longest_line)
 kept_in_full line bytes true test is =
     let same : line ≡ bytes = cc in
@@ -139,7 +152,8 @@ kept_in_full line bytes true test is =
     (same, rw same at short)
 kept_in_full line bytes false test is = cc
 
-not_kept : (line : List ℕ) (t : Bool) → nat_le (length line) longest_line ≡ t → (if t then Some line else None) ≡ None → longest_line < length line
+not_kept : (line : List ℕ) (t : Bool) → nat_le (length line) longest_line ≡ t → (if t then Some line else None) ≡ None
+    → longest_line < length line
 not_kept line true test is = cc
 not_kept line false test is = leb-false (length line) longest_line test
 
@@ -158,7 +172,8 @@ record Next (lines : List (List ℕ)) (count : ℕ) (kept : Option (List ℕ)) :
   kept_is : kept_of line ≡ kept
   last : length lines ≡ count + 1
 
-next_line : (lines : List (List ℕ)) (count : ℕ) (kept : Option (List ℕ)) → map kept_of (drop count lines) ≡ kept ∷ [] → Next lines count kept
+next_line : (lines : List (List ℕ)) (count : ℕ) (kept : Option (List ℕ)) → map kept_of (drop count lines) ≡ kept ∷ []
+    → Next lines count kept
 next_line [] zero kept h = cc
 next_line [] (suc count) kept h = cc
 next_line (line ∷ lines) zero kept h =
@@ -182,7 +197,8 @@ IsNextLine-shown TooLong kept lines count shows had =
     (next.line, next.at, kept_of-none next.line (next.kept_is ∙ shows))
 IsNextLine-shown More kept lines count shows had = absurd shows
 
-one_more : (kept : Option (List ℕ)) (lines : Lines) (count : ℕ) → HasGiven (held kept true) lines count → HasGiven nothing_held lines (count + 1)
+one_more : (kept : Option (List ℕ)) (lines : Lines) (count : ℕ) → HasGiven (held kept true) lines count
+    → HasGiven nothing_held lines (count + 1)
 one_more kept lines count had =
     let l = (next_line lines.whole count kept had.ended).last in
     record {
@@ -204,5 +220,6 @@ CutsNext-shown TooLong kept shows = (refl, shows)
 CutsNext-shown More kept shows = absurd shows
 
 -- a cutter that holds no ended line has given them all
-pub HasGiven-all : (kept : Option (List ℕ)) (lines : Lines) (count : ℕ) → HasGiven (held kept false) lines count → length lines.whole ≡ count
+pub HasGiven-all : (kept : Option (List ℕ)) (lines : Lines) (count : ℕ) → HasGiven (held kept false) lines count
+    → length lines.whole ≡ count
 HasGiven-all kept lines count had = no_more lines.whole count had.within had.ended

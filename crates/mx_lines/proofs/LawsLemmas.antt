@@ -1,5 +1,6 @@
 -- Lemmas on lawful runs that go on.
-use Rattle.std.proofs.Common.{◌≡◌, ℕ, ◌≤◌, true, false, List, [], ◌∷◌, ◌++◌, Some, length, take, drop, refl, sym, ap, ◌∙◌, inl, inr, arith}
+use Rattle.std.proofs.Common.{◌≡◌, ℕ, ◌≤◌, true, false, List, [], ◌∷◌, ◌++◌, Some, length, take, drop, refl, sym, ap}
+use Rattle.std.proofs.Common.{◌∙◌, inl, inr, arith}
 use Rattle.std.specs.List.{slice_get}
 use Rattle.std.proofs.lemmas.Option.{slice_get_within}
 use Rattle.std.proofs.lemmas.List.{append-nil, take-append-drop, take-append-le}
@@ -10,7 +11,8 @@ use Rattle.mx_lines.specs.Runs.{Run, Point, is_answer, point_at, input_lines, ou
 use Rattle.mx_lines.specs.Laws.{IsTurn, LineLaws, WholeLaws, IsLawful}
 use Rattle.mx_lines.proofs.ListLemmas.{slice_get-more, slice_get-push_cases}
 use Rattle.mx_lines.proofs.LinesLemmas.{IsOneLine-take}
-use Rattle.mx_lines.proofs.RunsLemmas.{HaveLines, Grows, Grows-told, Grows-part, point_at-grows, output_lines-told, output_lines-part, begun-part}
+use Rattle.mx_lines.proofs.RunsLemmas.{HaveLines, Grows, Grows-told, Grows-part, point_at-grows, output_lines-told}
+use Rattle.mx_lines.proofs.RunsLemmas.{output_lines-part, begun-part}
 
 -- each answer of a run that keeps the laws has its line
 pub HaveLines-laws : (server : List ℕ) (h0 : History) (run : Run) → WholeLaws server h0 run
@@ -51,8 +53,10 @@ pub LineLaws-grows : (server : List ℕ) (h0 : History) (run new : Run) → Grow
 LineLaws-grows server h0 run new grows laws k out le law =
     let same = point_at-grows server h0 run new grows (HaveLines-laws server h0 run laws) k le in
     record {
-      reply_law = RepliesAt-more server (input_lines run) grows.more_in (input_lines new) (point_at server h0 run k) (point_at server h0 new k) out grows.inputs same law.reply_law;
-      notice_law = StandsAt-more server (input_lines run) grows.more_in (input_lines new) (point_at server h0 run k) (point_at server h0 new k) out grows.inputs same law.notice_law;
+      reply_law = RepliesAt-more server (input_lines run) grows.more_in (input_lines new) (point_at server h0 run k)
+          (point_at server h0 new k) out grows.inputs same law.reply_law;
+      notice_law = StandsAt-more server (input_lines run) grows.more_in (input_lines new) (point_at server h0 run k)
+          (point_at server h0 new k) out grows.inputs same law.notice_law;
     }
 
 within : {A : Type 0} (xs : List A) (k : ℕ) (x : A) → slice_get xs k ≡ Some x → k ≤ length xs
@@ -64,11 +68,14 @@ pub WholeLaws-told : (server : List ℕ) (h0 : History) (run : Run) (out : List 
     → WholeLaws server h0 (told run (with_feed out))
 WholeLaws-told server h0 run out laws at_end one law k line at =
     let grows = Grows-told run out at_end one in
-    let pushed : slice_get (output_lines run ++ out ∷ []) k ≡ Some line = rw (output_lines-told run out at_end one) at at in
+    let pushed : slice_get (output_lines run ++ out ∷ []) k ≡ Some line =
+    rw (output_lines-told run out at_end one) at at in
     let cases = slice_get-push_cases (output_lines run) out k line pushed in
     elim cases [
-      | inl l ↦ LineLaws-grows server h0 run (told run (with_feed out)) grows laws k line (omega arith) (laws k line l.1)
-      | inr r ↦ rw (r.0, r.1) (LineLaws-grows server h0 run (told run (with_feed out)) grows laws (length (output_lines run)) out (omega arith) law)
+      | inl l ↦
+          LineLaws-grows server h0 run (told run (with_feed out)) grows laws k line (omega arith) (laws k line l.1)
+      | inr r ↦ rw (r.0, r.1) (LineLaws-grows server h0 run (told run (with_feed out)) grows laws
+          (length (output_lines run)) out (omega arith) law)
     ]
 
 -- more input and no further whole line leave the laws kept
@@ -89,7 +96,8 @@ WholeLaws-more server h0 run new more inputs outputs laws k line at =
 pub WholeLaws-part : (server : List ℕ) (h0 : History) (run : Run) (part : List ℕ) → WholeLaws server h0 run
     → IsOneLine part → WholeLaws server h0 (told run part)
 WholeLaws-part server h0 run part laws one =
-    WholeLaws-more server h0 run (told run part) [] (sym (append-nil (input_lines run))) (output_lines-part run part one) laws
+    WholeLaws-more server h0 run (told run part) [] (sym (append-nil (input_lines run)))
+    (output_lines-part run part one) laws
 
 -- how the run ends leaves the laws kept
 pub WholeLaws-halted : (server : List ℕ) (h0 : History) (run : Run) (status : ℕ) → WholeLaws server h0 run
@@ -106,7 +114,8 @@ Grows-halted run status = record {
 }
 
 -- a run whose output ends with a line feed is lawful however it ends
-pub IsLawful-whole : (server : List ℕ) (h0 : History) (run : Run) (status : ℕ) → WholeLaws server h0 run → begun run ≡ []
+pub IsLawful-whole : (server : List ℕ) (h0 : History) (run : Run) (status : ℕ) → WholeLaws server h0 run
+    → begun run ≡ []
     → IsLawful server h0 (halted run status)
 IsLawful-whole server h0 run status laws at_end =
     record { whole = WholeLaws-halted server h0 run status laws; part = inl at_end }
@@ -116,25 +125,37 @@ take_before_feed : (out : List ℕ) (k : ℕ) → k ≤ length out → take k (w
 take_before_feed out k le = take-append-le k out (10 ∷ []) le
 
 -- the laws of the line that is begun, as the run ends within it
-LineLaws-begun : (server : List ℕ) (h0 : History) (run : Run) (out part rest : List ℕ) (status : ℕ) → WholeLaws server h0 run
+LineLaws-begun : (server : List ℕ) (h0 : History) (run : Run) (out part rest : List ℕ) (status : ℕ)
+    → WholeLaws server h0 run
     → begun run ≡ [] → IsOneLine part → part ++ rest ≡ out → LineLaws server h0 run (length (output_lines run)) out
-    → LineLaws server h0 (halted (told run part) status) (length (output_lines (told run part))) (begun (told run part) ++ rest)
+    → LineLaws server h0 (halted (told run part) status) (length (output_lines (told run part)))
+    (begun (told run part) ++ rest)
 LineLaws-begun server h0 run out part rest status laws at_end one is law =
-    let wrote : begun (told run part) ++ rest ≡ out = ap (λ (b : List ℕ). b ++ rest) (begun-part run part at_end one) ∙ is in
-    let begin = LineLaws-grows server h0 run (told run part) (Grows-part run part one) laws (length (output_lines run)) out (omega arith) law in
+    let wrote : begun (told run part) ++ rest ≡ out =
+    ap (λ (b : List ℕ). b ++ rest) (begun-part run part at_end one) ∙ is in
+    let begin = LineLaws-grows server h0 run (told run part) (Grows-part run part one) laws
+    (length (output_lines run)) out (omega arith) law in
     let part_laws = WholeLaws-part server h0 run part laws one in
-    let count : length (output_lines run) ≡ length (output_lines (told run part)) = ap length (sym (output_lines-part run part one)) in
+    let count : length (output_lines run) ≡ length (output_lines (told run part)) =
+    ap length (sym (output_lines-part run part one)) in
     let le : length (output_lines run) ≤ length (output_lines (told run part)) = omega arith in
     rw (wrote, ← count)
-    (LineLaws-grows server h0 (told run part) (halted (told run part) status) (Grows-halted (told run part) status) part_laws (length (output_lines run)) out le begin)
+    (LineLaws-grows server h0 (told run part) (halted (told run part) status)
+    (Grows-halted (told run part) status) part_laws (length (output_lines run)) out le begin)
 
 -- a run that ends within a line that would keep the laws is lawful
-pub IsLawful-begun : (server : List ℕ) (h0 : History) (run : Run) (out : List ℕ) (k status : ℕ) → WholeLaws server h0 run
+pub IsLawful-begun : (server : List ℕ) (h0 : History) (run : Run) (out : List ℕ) (k status : ℕ)
+    → WholeLaws server h0 run
     → begun run ≡ [] → IsOneLine out → LineLaws server h0 run (length (output_lines run)) out → k ≤ length out
     → IsLawful server h0 (halted (told run (take k (with_feed out))) status)
 IsLawful-begun server h0 run out k status laws at_end one law le =
     let part_one = IsOneLine-take k out one in
     rw (take_before_feed out k le) (record {
-      whole = WholeLaws-halted server h0 (told run (take k out)) status (WholeLaws-part server h0 run (take k out) laws part_one);
-      part = inr (drop k out, LineLaws-begun server h0 run out (take k out) (drop k out) status laws at_end part_one (take-append-drop k out) law);
+      whole = WholeLaws-halted server h0 (told run (take k out)) status
+          (WholeLaws-part server h0 run (take k out) laws part_one);
+      part = inr (
+        drop k out,
+        LineLaws-begun server h0 run out (take k out) (drop k out) status laws at_end part_one
+            (take-append-drop k out) law,
+      );
     })

@@ -3,7 +3,8 @@ use Rattle.std.proofs.Common.{◌≡◌, ℕ, ◌<◌, ◌⊎◌, List, [], ◌�
 use Rattle.std.specs.List.{slice_get}
 
 -- an element stays where it is as the list grows
-pub slice_get-more : {A : Type 0} (xs ys : List A) (k : ℕ) (x : A) → slice_get xs k ≡ Some x → slice_get (xs ++ ys) k ≡ Some x
+pub slice_get-more : {A : Type 0} (xs ys : List A) (k : ℕ) (x : A) → slice_get xs k ≡ Some x
+    → slice_get (xs ++ ys) k ≡ Some x
 slice_get-more [] ys k x h = cc
 slice_get-more (y ∷ xs) ys zero x h = h
 slice_get-more (y ∷ xs) ys (suc k) x h = slice_get-more xs ys k x h

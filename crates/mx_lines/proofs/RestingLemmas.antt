@@ -12,7 +12,8 @@ use Rattle.mx_lines.proofs.CuttingLemmas.{held, HasGiven-shown, HasGiven-all, Cu
 pub record Next (cut : Cut) (old new : Held) : Type 0 where
   pub gives : GivesNext cut old new
   pub cuts : CutsNext cut old
-  pub lines : (bytes : List ℕ) (count : ℕ) → HasGiven old (lines_of bytes) count → IsNextLine cut (lines_of bytes).whole count
+  pub lines : (bytes : List ℕ) (count : ℕ) → HasGiven old (lines_of bytes) count
+      → IsNextLine cut (lines_of bytes).whole count
 
 -- where no line ended
 pub Next-more : (kept : Option (List ℕ)) (ended : Bool) → ended ≡ false → Next More (held kept ended) (held kept ended)
@@ -24,7 +25,8 @@ Next-more kept ended going =
     })
 
 -- where the line that is held ended
-pub Next-shown : (cut : Cut) (kept : Option (List ℕ)) (ended : Bool) → ended ≡ true → Shows cut kept → Next cut (held kept ended) nothing_held
+pub Next-shown : (cut : Cut) (kept : Option (List ℕ)) (ended : Bool) → ended ≡ true → Shows cut kept
+    → Next cut (held kept ended) nothing_held
 Next-shown cut kept ended has_ended shows =
     rw has_ended (record {
       gives = record { held = refl; lines = λ lines count had. HasGiven-shown cut kept lines count shows had };

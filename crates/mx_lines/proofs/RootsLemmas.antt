@@ -1,9 +1,12 @@
 -- A sorted map of roots has the entries of the finite map by which it is told; its object is valid.
-use Rattle.std.proofs.Common.{◌≡◌, ℕ, zero, suc, ◌+◌, ◌≤◌, zero-le, Bool, true, false, cond, if◌then◌else◌, ◌||◌, not, List, [], ◌∷◌, ◌++◌, length, map, take, Option, Some, None, ◌⊎◌, inl, inr, All, refl, sym, ap, subst, ◌∙◌, arith, Bor, BTreeMap, Ordering, Less, Equal, Greater}
+use Rattle.std.proofs.Common.{◌≡◌, ℕ, zero, suc, ◌+◌, ◌≤◌, zero-le, Bool, true, false, cond, if◌then◌else◌, ◌||◌, not}
+use Rattle.std.proofs.Common.{List, [], ◌∷◌, ◌++◌, length, map, take, Option, Some, None, ◌⊎◌, inl, inr, All, refl, sym}
+use Rattle.std.proofs.Common.{ap, subst, ◌∙◌, arith, Bor, BTreeMap, Ordering, Less, Equal, Greater}
 use Rattle.std.specs.BTreeMap.{IsOrdered, insert_entry}
 use Rattle.std.specs.Cmp.Lexicographic.{slice_cmp, nat_list_cmp_total}
 use Rattle.std.specs.FinMap.Entries.{by_order}
-use Rattle.std.specs.FinMap.{entries, find, from_entries, get, get-from_entries, get-insert, entries-insert, insert, len-empty, len-entries, put, nat_cmp-IsAntisymmetric, slice_cmp-IsAntisymmetric, same_map}
+use Rattle.std.specs.FinMap.{entries, find, from_entries, get, get-from_entries, get-insert, entries-insert, insert}
+use Rattle.std.specs.FinMap.{len-empty, len-entries, put, nat_cmp-IsAntisymmetric, slice_cmp-IsAntisymmetric, same_map}
 use Rattle.std.specs.List.{filter, filter_map, list_all, slice_get, AllByRecursion}
 use Rattle.std.specs.List.Sorted.{IsStrictlySortedBy}
 use Rattle.std.specs.Ordering.{eq_by_cmp, is_lt, match_ordering, nat_cmp}

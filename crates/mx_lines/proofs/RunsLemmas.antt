@@ -1,10 +1,12 @@
 -- Lemmas on the points of a run.
-use Rattle.std.proofs.Common.{◌≡◌, ℕ, ◌≤◌, Bool, true, false, List, [], ◌∷◌, ◌++◌, Some, None, Option, length, refl, sym, ap, ◌∙◌, suc, zero, add-one, arith, if◌then◌else◌}
+use Rattle.std.proofs.Common.{◌≡◌, ℕ, ◌≤◌, Bool, true, false, List, [], ◌∷◌, ◌++◌, Some, None, Option, length, refl}
+use Rattle.std.proofs.Common.{sym, ap, ◌∙◌, suc, zero, add-one, arith, if◌then◌else◌}
 use Rattle.std.specs.List.{slice_get}
 use Rattle.std.proofs.lemmas.List.{length_push, append-nil}
 use Rattle.mx_records.specs.History.{History}
 use Rattle.mx_lines.specs.Lines.{Lines, IsOneLine, with_feed}
-use Rattle.mx_lines.specs.Runs.{Run, Point, is_answer, past, past_line, past_answer, past_notice, point_of, point_at, point_now, input_lines, output_lines, begun, told}
+use Rattle.mx_lines.specs.Runs.{Run, Point, is_answer, past, past_line, past_answer, past_notice, point_of, point_at}
+use Rattle.mx_lines.specs.Runs.{point_now, input_lines, output_lines, begun, told}
 use Rattle.mx_lines.proofs.ListLemmas.{slice_get-more, slice_get-left, slice_get-seam}
 use Rattle.mx_lines.proofs.LinesLemmas.{lines_of-part, lines_of-line}
 
@@ -23,7 +25,8 @@ past_line-more : (server : List ℕ) (inputs more : List (List ℕ)) (p : Point)
     ≡ (if t then past_answer server p (slice_get inputs p.answered) else past_notice server p out)
 past_line-more server inputs more p out true h =
     let had = h refl in
-    let later : slice_get (inputs ++ more) p.answered ≡ Some had.0 = slice_get-more inputs more p.answered had.0 had.1 in
+    let later : slice_get (inputs ++ more) p.answered ≡ Some had.0 =
+    slice_get-more inputs more p.answered had.0 had.1 in
     ap (past_answer server p) (later ∙ sym had.1)
 past_line-more server inputs more p out false h = refl
 
@@ -99,7 +102,8 @@ pub point_of-push : (server : List ℕ) (h0 : History) (inputs outputs : List (L
     ≡ past_line server inputs (point_of server h0 inputs outputs (length outputs)) out
 unfolding point_of
 point_of-push server h0 inputs outputs out have =
-    let same : point_of server h0 inputs (outputs ++ out ∷ []) (length outputs) ≡ point_of server h0 inputs outputs (length outputs) =
+    let same : point_of server h0 inputs (outputs ++ out ∷ []) (length outputs)
+    ≡ point_of server h0 inputs outputs (length outputs) =
     rw append-nil at (point_of-grows server h0 inputs [] outputs (out ∷ []) have (length outputs) (omega arith)) in
     rw (slice_get-seam outputs out [], same)
 
@@ -114,4 +118,5 @@ point_now-told server h0 run out have at_end one =
 pub point_now-part : (server : List ℕ) (h0 : History) (run : Run) (part : List ℕ) → IsOneLine part
     → point_now server h0 (told run part) ≡ point_now server h0 run
 point_now-part server h0 run part one =
-    ap (λ (outputs : List (List ℕ)). point_of server h0 (input_lines run) outputs (length outputs)) (output_lines-part run part one)
+    ap (λ (outputs : List (List ℕ)). point_of server h0 (input_lines run) outputs (length outputs))
+    (output_lines-part run part one)

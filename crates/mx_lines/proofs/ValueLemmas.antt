@@ -1,23 +1,28 @@
 -- What is replied is a valid value.
-use Rattle.std.proofs.Common.{◌≡◌, ℕ, ◌≤◌, pos, Bool, true, false, List, [], ◌∷◌, ◌++◌, codes, refl, ap, ap₂, ◌∙◌, arith, rules}
+use Rattle.std.proofs.Common.{◌≡◌, ℕ, ◌≤◌, pos, Bool, true, false, List, [], ◌∷◌, ◌++◌, codes, refl, ap, ap₂, ◌∙◌}
+use Rattle.std.proofs.Common.{arith, rules}
 use Rattle.std.proofs.lemmas.Bool.{and_from, le-leb}
 use Rattle.mx_json.specs.declared.value.Json.{Json, Text, Object, the_lemmas}
 use Rattle.mx_json.specs.declared.value.JsonObject.{JsonObject}
 use Rattle.mx_json.specs.Json.{depth_of, is_valid, is_whole, largest_whole}
 use Rattle.mx_json.proofs.JsonLemmas.{depth_of-Object}
-use Rattle.mx_json.proofs.ObjectLemmas.{is_ascii, is_fit, is_fit-Whole, is_fit-Text, is_fit_from, is_utf8-ascii, is_valid-Object}
+use Rattle.mx_json.proofs.ObjectLemmas.{is_ascii, is_fit, is_fit-Whole, is_fit-Text, is_fit_from, is_utf8-ascii}
+use Rattle.mx_json.proofs.ObjectLemmas.{is_valid-Object}
 use Rattle.mx_records.specs.FieldNames.{field_of_part, name_of}
 use Rattle.mx_records.specs.Refusing.{most_inputs, NamesAPosition}
 use Rattle.mx_rows.specs.declared.counts.Counts.{Counts}
 use Rattle.mx_records.specs.declared.field_name.FieldName.{FieldName}
 use Rattle.mx_records.specs.declared.field_name.FieldName.TheVariants.{Cmd}
 use Rattle.mx_records.specs.declared.refusal.Refusal.{Refusal}
-use Rattle.mx_records.specs.declared.refusal.Refusal.TheVariants.{NotLocal, KnownEvent, UnknownEvent, NotInThread, RuleReserved, BadRule, RuleUnknown, AnchorUnknown, RulesFull, EntryTooLong, Full}
+use Rattle.mx_records.specs.declared.refusal.Refusal.TheVariants.{NotLocal, KnownEvent, UnknownEvent, NotInThread}
+use Rattle.mx_records.specs.declared.refusal.Refusal.TheVariants.{RuleReserved, BadRule, RuleUnknown, AnchorUnknown}
+use Rattle.mx_records.specs.declared.refusal.Refusal.TheVariants.{RulesFull, EntryTooLong, Full}
 use Rattle.mx_lines.specs.declared.command.Denial.{Denial}
 use Rattle.mx_lines.specs.declared.command.Denial.TheVariants.{TooLong, Line, Input}
 use Rattle.mx_lines.specs.declared.command.LineRefusal.{LineRefusal}
 use Rattle.mx_lines.specs.declared.command.LineRefusal.TheVariants.{BadLine, NotWhole, BadField, NotBuilt}
-use Rattle.mx_lines.specs.Replies.{object_of, number_of, ok_value, error_value, line_refusal_value, refusal_value, denied_value, numbers_of, counts_value, NamesInRange}
+use Rattle.mx_lines.specs.Replies.{object_of, number_of, ok_value, error_value, line_refusal_value, refusal_value}
+use Rattle.mx_lines.specs.Replies.{denied_value, numbers_of, counts_value, NamesInRange}
 
 -- the object of these members
 abbrev members_of : List (List ℕ × Json) → JsonObject

@@ -1,5 +1,6 @@
 -- The table of commands, and what a line is read as: ours.
-use Rattle.std.specs.Prelude.{◌≡◌, ℕ, Bool, true, List, [], ◌∷◌, codes, Option, None, Some, is_some, option_map, unwrap_or, Result, Ok, Err}
+use Rattle.std.specs.Prelude.{◌≡◌, ℕ, Bool, true, List, [], ◌∷◌, codes, Option, None, Some, is_some, option_map}
+use Rattle.std.specs.Prelude.{unwrap_or, Result, Ok, Err}
 use Rattle.std.specs.Option.{option_map_or}
 use Rattle.mx_json.specs.declared.value.Json.{Json}
 use Rattle.mx_json.specs.declared.reading.JsonError.{JsonError}
@@ -21,7 +22,8 @@ use Rattle.mx_lines.specs.declared.command.Command.TheVariants.{Input as InputCo
 use Rattle.mx_lines.specs.declared.command.LineError.{LineError}
 use Rattle.mx_lines.specs.declared.command.LineError.TheVariants.{Refused, OutOfMemory as WantOfMemory}
 use Rattle.mx_lines.specs.declared.command.LineRefusal.{LineRefusal}
-use Rattle.mx_lines.specs.declared.command.LineRefusal.TheVariants.{BadLine, NotWhole as NumberNotWhole, BadField, NotBuilt}
+use Rattle.mx_lines.specs.declared.command.LineRefusal.TheVariants.{BadLine, NotWhole as NumberNotWhole, BadField}
+use Rattle.mx_lines.specs.declared.command.LineRefusal.TheVariants.{NotBuilt}
 use Rattle.mx_lines.specs.declared.question_word.QuestionWord.{QuestionWord}
 use Rattle.mx_lines.specs.declared.question_word.QuestionWord.TheVariants.{Counts as CountsWord, Rules as RulesWord}
 use Rattle.mx_lines.specs.QuestionWords.{question_word_in}

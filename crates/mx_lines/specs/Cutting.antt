@@ -1,5 +1,6 @@
 -- How lines are cut from bytes that come in pieces, and what a cutter holds in between: ours.
-use Rattle.std.specs.Prelude.{◌≡◌, ℕ, ◌+◌, ◌<◌, ◌≤◌, Bool, true, false, List, [], ◌∷◌, ◌++◌, length, map, drop, slice_get, nat_le, Option, None, Some, if◌then◌else◌}
+use Rattle.std.specs.Prelude.{◌≡◌, ℕ, ◌+◌, ◌<◌, ◌≤◌, Bool, true, false, List, [], ◌∷◌, ◌++◌, length, map, drop}
+use Rattle.std.specs.Prelude.{slice_get, nat_le, Option, None, Some, if◌then◌else◌}
 use Rattle.mx_lines.specs.Lines.{Lines, lines_of}
 use Rattle.mx_lines.specs.declared.cut.Cut.{Cut}
 use Rattle.mx_lines.specs.declared.cut.Cut.TheVariants.{Line, TooLong, More}
@@ -33,7 +34,8 @@ abbrev pub first_size : List (List ℕ) → List ℕ → ℕ
 first_size [] rest = length rest
 first_size (line ∷ later) rest = length line + 1
 
--- how many bytes of this piece are taken: none while an ended line waits, else up to and with the first line feed, or all
+-- how many bytes of this piece are taken: none while an ended line waits,
+-- else up to and with the first line feed, or all
 abbrev pub taken_count : Held → List ℕ → ℕ
 taken_count held piece = if held.ended then 0 else first_size (lines_of piece).whole (lines_of piece).rest
 
@@ -76,7 +78,8 @@ ended_line held = if held.ended then held.kept ∷ [] else []
 abbrev pub open_line : Held → Option (List ℕ)
 open_line held = if held.ended then Some [] else held.kept
 
--- Of these lines the first ones were given, so many, and what follows is held: one line that ended, or what has no end yet.
+-- Of these lines the first ones were given, so many, and what follows is held:
+-- one line that ended, or what has no end yet.
 pub record HasGiven (held : Held) (lines : Lines) (count : ℕ) : Type 0 where
   pub within : count ≤ length lines.whole
   pub ended : map kept_of (drop count lines.whole) ≡ ended_line held

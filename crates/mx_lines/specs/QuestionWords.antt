@@ -4,7 +4,8 @@ use Rattle.std.specs.Str.{bytes_eq}
 use Rattle.mx_json.specs.declared.value.Json.{Json}
 use Rattle.mx_json.specs.Json.{text_at}
 use Rattle.mx_lines.specs.declared.question_word.QuestionWord.{QuestionWord}
-use Rattle.mx_lines.specs.declared.question_word.QuestionWord.TheVariants.{Counts, Rules, Pushers, Turn, Stat, Checkpoint}
+use Rattle.mx_lines.specs.declared.question_word.QuestionWord.TheVariants.{Counts, Rules, Pushers, Turn, Stat}
+use Rattle.mx_lines.specs.declared.question_word.QuestionWord.TheVariants.{Checkpoint}
 
 -- the word that a text spells, if it is one of the six
 unfoldable pub question_word_named : List ℕ → Option QuestionWord

@@ -12,7 +12,8 @@ use Rattle.mx_lines.specs.contracts.cutter.LineCutter as cutter
 abbrev pub KeepsNothing : MutBor (Option (List ℕ)) → Fml
 KeepsNothing line = Rests buffer.the_row line (λ new. new ≡ Some [])
 
--- the ended line, if there is one, was given by this cut: it is counted among the given lines, and what follows it is held
+-- the ended line, if there is one, was given by this cut: it is counted among the given lines,
+-- and what follows it is held
 pub record GivesNext (cut : Cut) (old new : Held) : Type 0 where
   pub held : new ≡ after_next old
   pub lines : (lines : Lines) (count : ℕ) → HasGiven old lines count → HasGiven new lines (count + shown_count cut)

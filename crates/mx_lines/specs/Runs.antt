@@ -1,5 +1,6 @@
 -- A run of the server as plain data, and how far its output has taken the history: ours.
-use Rattle.std.specs.Prelude.{ℕ, zero, suc, ◌+◌, Bool, true, false, ◌==◌, List, [], ◌∷◌, ◌++◌, length, count_by, Option, None, Some, slice_get, if◌then◌else◌}
+use Rattle.std.specs.Prelude.{ℕ, zero, suc, ◌+◌, Bool, true, false, ◌==◌, List, [], ◌∷◌, ◌++◌, length, count_by, Option}
+use Rattle.std.specs.Prelude.{None, Some, slice_get, if◌then◌else◌}
 use Rattle.mx_lines.specs.Lines.{lines_of}
 use Rattle.mx_records.specs.History.{History}
 use Rattle.mx_lines.specs.Admission.{after}
@@ -85,7 +86,8 @@ point_at server h0 run k = point_of server h0 (input_lines run) (output_lines ru
 abbrev pub point_now : List ℕ → History → Run → Point
 point_now server h0 run = point_at server h0 run (length (output_lines run))
 
--- past what there is of the line that is begun: an answer counts from its first byte on, a notice when its line is whole
+-- past what there is of the line that is begun: an answer counts from its first byte on,
+-- a notice when its line is whole
 abbrev pub past_begun : List ℕ → List (List ℕ) → Point → List ℕ → Point
 past_begun server inputs p out = if is_answer out then past_line server inputs p out else p
 

@@ -1,4 +1,5 @@
-ghost use Rattle.std.specs.Prelude.{◌≡◌, ◌↔◌, ◌≤◌, ◌++◌, [], Some, IfOk, IsTrue, vec_len, vec_capacity};
+ghost use Rattle.std.specs.Prelude.{◌≡◌, ◌↔◌, ◌≤◌, ◌++◌, [], Some, IfOk, IsTrue, vec_len};
+ghost use Rattle.std.specs.Prelude.{vec_capacity};
 ghost use Rattle.std.specs.Borrow.{sem};
 ghost use Rattle.mx_lines.specs.Buffers.{kept_in, Shows};
 ghost use Rattle.mx_lines.specs.Cutting.{longest_line, kept_of, kept_with};
@@ -35,7 +36,8 @@ impl Model for LineBuffer {
 
     ghost view = { λ b. kept_in b.content b.bytes.items };
 
-    ghost invariant = { λ b. (vec_len b.bytes ≤ longest_line) × (longest_line ≤ vec_capacity b.bytes) };
+    ghost invariant = { λ b. (vec_len b.bytes ≤ longest_line)
+        × (longest_line ≤ vec_capacity b.bytes) };
 }
 
 impl LineBuffer {

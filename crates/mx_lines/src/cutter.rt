@@ -28,7 +28,8 @@ impl Model for LineCutter {
 }
 
 impl LineCutter {
-    ghost use Rattle.mx_lines.specs.Cutting.{nothing_held, taken_count, after_feed, CutsNext, CutsLast, IsShort};
+    ghost use Rattle.mx_lines.specs.Cutting.{nothing_held, taken_count, after_feed, CutsNext};
+    ghost use Rattle.mx_lines.specs.Cutting.{CutsLast, IsShort};
     ghost use Rattle.mx_lines.specs.Cutting.{HasGiven, IsNextLine, IsLastLine};
     ghost use Rattle.mx_lines.specs.Lines.{lines_of};
     ghost use Rattle.mx_lines.specs.Resting.{HoldsTheRest, HoldsNothing};

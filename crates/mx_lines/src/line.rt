@@ -4,7 +4,8 @@ ghost use Rattle.mx_records.specs.declared.input.Input.{Input};
 ghost use Rattle.mx_records.specs.Forms.{Form, input_form_in};
 ghost use Rattle.mx_records.specs.InputWords.{input_word_in};
 ghost use Rattle.mx_lines.specs.Cutting.{longest_line};
-ghost use Rattle.mx_lines.specs.Commands.{command_of, command_in, question_in, command_by, input_form, counts_form, rules_form, IsReady};
+ghost use Rattle.mx_lines.specs.Commands.{command_of, command_in, question_in, command_by};
+ghost use Rattle.mx_lines.specs.Commands.{input_form, counts_form, rules_form, IsReady};
 ghost use Rattle.mx_lines.specs.Commands.{has_threads_or_none, threads_in, ReadsAs};
 
 use crate::command::{Command, LineError, LineRefusal};

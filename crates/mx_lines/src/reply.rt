@@ -1,4 +1,5 @@
-ghost use Rattle.std.specs.Prelude.{◌≡◌, ◌≤◌, ◌++◌, [], ◌∷◌, true, codes, take, vec_len, IfOk, OnOk, OnErr};
+ghost use Rattle.std.specs.Prelude.{◌≡◌, ◌≤◌, ◌++◌, [], ◌∷◌, true, codes, take, vec_len, IfOk};
+ghost use Rattle.std.specs.Prelude.{OnOk, OnErr};
 ghost use Rattle.mx_json.specs.Json.{is_valid, largest_whole};
 ghost use Rattle.mx_records.specs.History.{History};
 ghost use Rattle.mx_records.specs.Refusing.{NamesAPosition};
@@ -7,7 +8,9 @@ ghost use Rattle.mx_records.specs.Snapshot.{snapshot_of};
 ghost use Rattle.mx_rule.specs.Predefined.{predefined_rules};
 ghost use Rattle.mx_rule.specs.Printed.{rules_object};
 ghost use Rattle.mx_lines.specs.Lines.{with_feed};
-ghost use Rattle.mx_lines.specs.Replies.{reply_text, number_of, error_value, ok_value, line_refusal_value, refusal_value, denied_value, NamesInRange};
+ghost use Rattle.mx_lines.specs.Replies.{reply_text, number_of, error_value, ok_value};
+ghost use Rattle.mx_lines.specs.Replies.{line_refusal_value, refusal_value, denied_value};
+ghost use Rattle.mx_lines.specs.Replies.{NamesInRange};
 ghost use Rattle.mx_lines.specs.Admission.{reply_to, IsQuestion};
 
 use crate::command::{Command, Denial, LineRefusal};

@@ -1,4 +1,5 @@
-ghost use Rattle.std.specs.Prelude.{◌≡◌, ◌+◌, ◌^◌, ◌<◌, ◌≤◌, ℕ, List, Option, length, IsOk, IsErr, IfSome, IfOk, OnOk, OnErr};
+ghost use Rattle.std.specs.Prelude.{◌≡◌, ◌+◌, ◌^◌, ◌<◌, ◌≤◌, ℕ, List, Option, length, IsOk, IsErr};
+ghost use Rattle.std.specs.Prelude.{IfSome, IfOk, OnOk, OnErr};
 ghost use Rattle.mx_outside.specs.Told.{WhereTold};
 ghost use Rattle.mx_outside.specs.Budget.{Budget, Covers, SpendsAtMost};
 
@@ -12,7 +13,8 @@ use crate::fault::Failed;
 /// faults rises in a call that fails, and in no other. Within the budget no call fails, save a
 /// write past the greatest length.
 pub trait Disk {
-    ghost use Rattle.mx_outside.specs.Disk.{Wrote, WasCut, IsRead, Torn, Shortened, Follows, NoMore, SameImages, Only, Elapses, CountsFaults};
+    ghost use Rattle.mx_outside.specs.Disk.{Wrote, WasCut, IsRead, Torn, Shortened, Follows};
+    ghost use Rattle.mx_outside.specs.Disk.{NoMore, SameImages, Only, Elapses, CountsFaults};
 
     // What a read gives now, where it is told.
     ghost seen: { Self → Option (List ℕ) };

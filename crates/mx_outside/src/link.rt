@@ -42,7 +42,8 @@ pub enum Received {
 /// An exchange that is named was opened and isn't closed. The count of faults rises in a call that
 /// fails and in no other, and the count of waits in a call that answers `NotYet` and in no other.
 pub trait Link {
-    ghost use Rattle.mx_outside.specs.Link.{Entry, IsOpen, Changes, Opens, IsSent, Sends, IsReceived, Receives, with_closed};
+    ghost use Rattle.mx_outside.specs.Link.{Entry, IsOpen, Changes, Opens, IsSent, Sends};
+    ghost use Rattle.mx_outside.specs.Link.{IsReceived, Receives, with_closed};
 
     // An entry for each call of `open`, where it tells them.
     ghost log: { Self → Option (List Entry) };

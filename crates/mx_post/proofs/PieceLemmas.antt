@@ -1,5 +1,6 @@
 -- The texts of the objects of a post, part by part.
-use Rattle.std.proofs.Common.{◌≡◌, ℕ, pos, Bool, true, false, List, [], ◌∷◌, ◌++◌, map, length, codes, decimal, filter, Option, None, Some, option_map, rules, refl, sym, ap, ◌∙◌, append_assoc, inl, inr}
+use Rattle.std.proofs.Common.{◌≡◌, ℕ, pos, Bool, true, false, List, [], ◌∷◌, ◌++◌, map, length, codes, decimal, filter}
+use Rattle.std.proofs.Common.{Option, None, Some, option_map, rules, refl, sym, ap, ◌∙◌, append_assoc, inl, inr}
 use Rattle.std.proofs.lemmas.Bool.{cases_Bool}
 use Rattle.std.proofs.lemmas.List.{append-nil}
 use Rattle.std.specs.FinMap.{get}
@@ -20,14 +21,17 @@ use Rattle.mx_records.specs.declared.pusher_spec.PusherSpec.{PusherSpec}
 use Rattle.mx_records.specs.Normal.{Field, given_pairs, object_of}
 use Rattle.mx_records.specs.Pending.{Pending}
 use Rattle.mx_post.specs.Pieces.{before_sound, given_text, member_text, rest_text, sent_text, silent_text}
-use Rattle.mx_post.specs.Post.{body_of, body_value, counts_value, details_sent, device_value, devices_value, event_value, ids_value, is_sent, notification_value, prio_of, request_with, target_told, tweaks_value}
+use Rattle.mx_post.specs.Post.{body_of, body_value, counts_value, details_sent, device_value, devices_value}
+use Rattle.mx_post.specs.Post.{event_value, ids_value, is_sent, notification_value, prio_of, request_with, target_told}
+use Rattle.mx_post.specs.Post.{tweaks_value}
 
 -- ---- objects of fields
 
 rest-of : (fields : List Field) → object_rest (map (with_value canonical) (given_pairs fields)) ≡ rest_text fields
 rest-of [] = refl
 rest-of ((key, None) ∷ fields) = rest-of fields
-rest-of ((key, Some value) ∷ fields) = ap (λ text. codes "," ++ ((quoted key ++ (codes ":" ++ canonical value)) ++ text)) (rest-of fields)
+rest-of ((key, Some value) ∷ fields) =
+    ap (λ text. codes "," ++ ((quoted key ++ (codes ":" ++ canonical value)) ++ text)) (rest-of fields)
 
 pub object_of-written : (key : List ℕ) (value : Json) (fields : List Field)
     → canonical (object_of ((key, Some value) ∷ fields))
@@ -75,8 +79,10 @@ pub tweaks-with : (before : List ℕ) (highlight : Bool) (sound : List ℕ)
 unfolding escape_byte
 tweaks-with before true sound =
     append_assoc before (before_sound true ++ canonical (Text sound)) (codes "}")
-    ∙ ap (λ text. before ++ (codes "{\"highlight\":" ++ (text ++ (codes ",\"sound\":" ++ (canonical (Text sound) ++ codes "}"))))) (sym true-text)
-    ∙ ap (λ text. before ++ text) (sym (object_of-written (codes "highlight") (Truth true) ((codes "sound", Some (Text sound)) ∷ [])))
+    ∙ ap (λ text. before ++ (codes "{\"highlight\":"
+    ++ (text ++ (codes ",\"sound\":" ++ (canonical (Text sound) ++ codes "}"))))) (sym true-text)
+    ∙ ap (λ text. before ++ text)
+    (sym (object_of-written (codes "highlight") (Truth true) ((codes "sound", Some (Text sound)) ∷ [])))
 tweaks-with before false sound =
     append_assoc before (before_sound false ++ canonical (Text sound)) (codes "}")
     ∙ ap (λ text. before ++ text) (sym (object_of-written (codes "sound") (Text sound) []))
@@ -85,7 +91,8 @@ pub tweaks-without : (highlight : Bool)
     → silent_text highlight ≡ canonical (tweaks_value record { highlight = highlight; sound = None })
 unfolding escape_byte
 tweaks-without true =
-    ap (λ text. codes "{\"highlight\":" ++ (text ++ codes "}")) (sym true-text) ∙ sym (object_of-written (codes "highlight") (Truth true) [])
+    ap (λ text. codes "{\"highlight\":" ++ (text ++ codes "}")) (sym true-text)
+    ∙ sym (object_of-written (codes "highlight") (Truth true) [])
 tweaks-without false = sym (canonical-Object record { pairs = [] })
 
 pub device-written : (before : List ℕ) (spec : PusherSpec) (http : HttpPusher) (tweaks : Option Tweaks)
@@ -114,9 +121,11 @@ pub devices-written : (before : List ℕ) (spec : PusherSpec) (http : HttpPusher
     → ((before ++ codes ",\"devices\":[") ++ canonical (device_value spec http tweaks)) ++ codes "]"
     ≡ before ++ (codes ",\"devices\":" ++ canonical (devices_value spec http tweaks))
 devices-written before spec http tweaks =
-    ap (λ text. text ++ codes "]") (append_assoc before (codes ",\"devices\":[") (canonical (device_value spec http tweaks)))
+    ap (λ text. text ++ codes "]")
+    (append_assoc before (codes ",\"devices\":[") (canonical (device_value spec http tweaks)))
     ∙ append_assoc before (codes ",\"devices\":[" ++ canonical (device_value spec http tweaks)) (codes "]")
-    ∙ ap (λ text. before ++ (codes ",\"devices\":" ++ text)) (sym (canonical-List record { items = device_value spec http tweaks ∷ [] }))
+    ∙ ap (λ text. before ++ (codes ",\"devices\":" ++ text))
+    (sym (canonical-List record { items = device_value spec http tweaks ∷ [] }))
 
 -- ---- the notification
 
@@ -131,21 +140,26 @@ counts-written before key unread =
     four : (o k c z : List ℕ) → ((o ++ k) ++ c) ++ z ≡ o ++ (k ++ (c ++ z))
     four o k c z = simp append_assoc
 
-pub target-written : (user : List ℕ) (event : Json) (told : List ℕ × List ℕ) (is_user : Bool) → Some told ≡ membership_of event
+pub target-written : (user : List ℕ) (event : Json) (told : List ℕ × List ℕ) (is_user : Bool)
+    → Some told ≡ membership_of event
     → is_user ≡ bytes_eq told.0 user
-    → codes ",\"user_is_target\":" ++ canonical (Truth is_user) ≡ given_text (codes "user_is_target") (target_told user event)
+    → codes ",\"user_is_target\":" ++ canonical (Truth is_user)
+    ≡ given_text (codes "user_is_target") (target_told user event)
 unfolding escape_byte
 target-written user event told is_user is same =
     ap (λ (b : Bool). codes ",\"user_is_target\":" ++ canonical (Truth b)) same
-    ∙ ap (λ (m : Option (List ℕ × List ℕ)). given_text (codes "user_is_target") (option_map (λ t. Truth (bytes_eq t.0 user)) m)) is
+    ∙ ap (λ (m : Option (List ℕ × List ℕ)).
+    given_text (codes "user_is_target") (option_map (λ t. Truth (bytes_eq t.0 user)) m)) is
 
 pub tweaks-told : (tweaks : Tweaks) (given : Option Tweaks) → given ≡ Some tweaks
-    → codes ",\"tweaks\":" ++ canonical (tweaks_value tweaks) ≡ given_text (codes "tweaks") (option_map tweaks_value given)
+    → codes ",\"tweaks\":" ++ canonical (tweaks_value tweaks)
+    ≡ given_text (codes "tweaks") (option_map tweaks_value given)
 unfolding escape_byte
 tweaks-told tweaks given is = rw is refl
 
 pub name-told : (name : List ℕ) (given : Option (List ℕ)) → given ≡ Some name
-    → codes ",\"sender_display_name\":" ++ canonical (Text name) ≡ given_text (codes "sender_display_name") (option_map Text given)
+    → codes ",\"sender_display_name\":" ++ canonical (Text name)
+    ≡ given_text (codes "sender_display_name") (option_map Text given)
 unfolding escape_byte
 name-told name given is = rw is refl
 
@@ -167,7 +181,8 @@ ids-written before spec http pending unread =
     (codes ",\"room_id\":" ++ canonical (Text (room_id_of pending.event))) (codes "}")
     ∙ ap (λ text. before ++ text)
     (sym (object_of-written (codes "counts") (counts_value unread)
-    ((codes "devices", Some (devices_value spec http None)) ∷ (codes "event_id", Some (Text (event_id_of pending.event)))
+    ((codes "devices", Some (devices_value spec http None))
+    ∷ (codes "event_id", Some (Text (event_id_of pending.event)))
     ∷ (codes "room_id", Some (Text (room_id_of pending.event))) ∷ [])))
   where
     five : (o c d e r z : List ℕ) → ((((o ++ c) ++ d) ++ e) ++ r) ++ z ≡ o ++ (c ++ (d ++ (e ++ (r ++ z))))
@@ -181,7 +196,8 @@ origin_text event prio =
     ++ ((codes ",\"room_id\":" ++ canonical (Text (room_id_of event)))
     ++ (codes ",\"sender\":" ++ canonical (Text (sender_of event)))))
 
-pub event-written : (before : List ℕ) (spec : PusherSpec) (http : HttpPusher) (pending : Pending) (tweaks : Tweaks) (unread : ℕ)
+pub event-written : (before : List ℕ) (spec : PusherSpec) (http : HttpPusher) (pending : Pending) (tweaks : Tweaks)
+    (unread : ℕ)
     → (((((((before ++ (codes "{\"content\":" ++ canonical (content_of pending.event)))
     ++ (codes ",\"counts\":" ++ canonical (counts_value unread)))
     ++ (codes ",\"devices\":" ++ canonical (devices_value spec http (Some tweaks))))
@@ -223,7 +239,8 @@ unfolding escape_byte
 body-written spec http pending tweaks unread =
     sym (object_of-written (codes "notification") (notification_value spec http pending tweaks unread) [])
 
-pub told : (spec : PusherSpec) (pending : Pending) (unread : ℕ) (http : HttpPusher) (tweaks : Tweaks) → spec.http ≡ Some http
+pub told : (spec : PusherSpec) (pending : Pending) (unread : ℕ) (http : HttpPusher) (tweaks : Tweaks)
+    → spec.http ≡ Some http
     → get pending.users spec.user ≡ Some tweaks
     → canonical (body_value spec http pending tweaks unread) ≡ body_of spec pending unread
 told spec pending unread http tweaks posts is_pending = rw (posts, is_pending)
@@ -245,6 +262,8 @@ request-written before target body =
     (codes "Connection: close") body
   where
     lines : (o p t v r h a c l n e b : List ℕ)
-        → (((((((o ++ p) ++ t) ++ (v ++ (r ++ h))) ++ a) ++ (r ++ (c ++ (r ++ l)))) ++ n) ++ (r ++ (e ++ (r ++ r)))) ++ b
-        ≡ o ++ (((p ++ (t ++ v)) ++ r) ++ (((h ++ a) ++ r) ++ ((c ++ r) ++ (((l ++ n) ++ r) ++ ((e ++ r) ++ (r ++ b))))))
+        → (((((((o ++ p) ++ t) ++ (v ++ (r ++ h))) ++ a) ++ (r ++ (c ++ (r ++ l)))) ++ n) ++ (r ++ (e ++ (r ++ r))))
+        ++ b
+        ≡ o
+        ++ (((p ++ (t ++ v)) ++ r) ++ (((h ++ a) ++ r) ++ ((c ++ r) ++ (((l ++ n) ++ r) ++ ((e ++ r) ++ (r ++ b))))))
     lines o p t v r h a c l n e b = simp append_assoc

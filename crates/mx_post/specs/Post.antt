@@ -1,7 +1,8 @@
 -- What is posted to a push gateway of an event that is pending: the Push Gateway API v1, 'POST
 -- /_matrix/push/v1/notify', in a request of RFC 9112 in absolute form. The order of the fields, what
 -- `prio` says, and that `unread` is one number are ours.
-use Rattle.std.specs.Prelude.{ℕ, pos, Bool, true, false, not, ◌||◌, if◌then◌else◌, List, [], ◌∷◌, ◌++◌, length, codes, decimal, Option, None, Some, is_some, option_map}
+use Rattle.std.specs.Prelude.{ℕ, pos, Bool, true, false, not, ◌||◌, if◌then◌else◌, List, [], ◌∷◌, ◌++◌, length, codes}
+use Rattle.std.specs.Prelude.{decimal, Option, None, Some, is_some, option_map}
 use Rattle.std.specs.FinMap.{get}
 use Rattle.std.specs.List.{filter}
 use Rattle.std.specs.Option.{option_map_or}

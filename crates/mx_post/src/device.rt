@@ -25,7 +25,8 @@ pub(crate) fn write_devices(
     requires details { is_valid (ObjectValue http.now.details) ≡ true }
     requires seconds { http.now.ts ≤ largest_whole }
     ensures { OnOk result (out.new.items ≡ out.old.items
-        ++ (codes ",\"devices\":" ++ canonical (devices_value spec.now http.now (option_copied tweaks.entry)))) }
+        ++ (codes ",\"devices\":"
+        ++ canonical (devices_value spec.now http.now (option_copied tweaks.entry)))) }
 {
     out.extend_from_slice(b",\"devices\":[")?;
     write_device(alloc, spec, http, tweaks, out)?;

@@ -1,6 +1,7 @@
 //! The body of a post: the notification of an event.
 
-ghost use Rattle.std.specs.Prelude.{◌≡◌, ◌≤◌, ◌++◌, true, codes, option_map, IfOk, IfSome, IsSome, OnOk};
+ghost use Rattle.std.specs.Prelude.{◌≡◌, ◌≤◌, ◌++◌, true, codes, option_map, IfOk, IfSome, IsSome};
+ghost use Rattle.std.specs.Prelude.{OnOk};
 ghost use Rattle.std.specs.FinMap.{get};
 ghost use Rattle.std.specs.Option.{option_copied};
 ghost use Rattle.mx_json.specs.Canonical.{canonical};
@@ -8,7 +9,8 @@ ghost use Rattle.mx_json.specs.Json.{is_valid, largest_whole};
 ghost use Rattle.mx_json.specs.declared.value.Json.{Object as ObjectValue, Text as TextValue};
 ghost use Rattle.mx_event.specs.Event.{event_id_of, kind_of, room_id_of, sender_of};
 ghost use Rattle.mx_post.specs.Pieces.{given_text};
-ghost use Rattle.mx_post.specs.Post.{body_of, body_value, counts_value, event_value, ids_value, notification_value, prio_of, target_told, wants_ids_alone};
+ghost use Rattle.mx_post.specs.Post.{body_of, body_value, counts_value, event_value, ids_value};
+ghost use Rattle.mx_post.specs.Post.{notification_value, prio_of, target_told, wants_ids_alone};
 
 use crate::device::write_devices;
 use crate::pieces::{write_number, write_text, write_truth, write_value};
@@ -198,7 +200,8 @@ fn write_origin(
 // Appends the sender's display name as a member that comes after others, if there is one.
 fn write_name(alloc: Global, name: Option<&str>, out: &mut Vec<u8>) -> Result<(), OutOfMemory>
     ensures { OnOk result (out.new.items ≡ out.old.items
-        ++ given_text (codes "sender_display_name") (option_map TextValue (option_copied name.entry))) }
+        ++ given_text (codes "sender_display_name")
+        (option_map TextValue (option_copied name.entry))) }
 {
     match name {
         Some(name) => write_text(alloc, b",\"sender_display_name\":", name, out),

@@ -29,7 +29,8 @@ pub(crate) fn write_text(
     text: &str,
     out: &mut Vec<u8>,
 ) -> Result<(), OutOfMemory>
-    ensures { OnOk result (out.new.items ≡ out.old.items ++ (before.now ++ canonical (Text text.now))) }
+    ensures { OnOk result
+        (out.new.items ≡ out.old.items ++ (before.now ++ canonical (Text text.now))) }
 {
     let value = Json::Text(JsonText::read(alloc, text)?);
     write_value(alloc, before, &value, out)

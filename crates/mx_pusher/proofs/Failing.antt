@@ -1,5 +1,6 @@
 -- What a pusher keeps after a failure is that of the course with the failure.
-use Rattle.std.proofs.Common.{◌≡◌, ℕ, ◌+◌, ◌-◌, ◌*◌, ◌^◌, ◌≤◌, min, suc, length, Option, Some, None, eqb, Bool, true, false, if◌then◌else◌, ◌∷◌, refl, ap, sym, ◌∙◌, arith}
+use Rattle.std.proofs.Common.{◌≡◌, ℕ, ◌+◌, ◌-◌, ◌*◌, ◌^◌, ◌≤◌, min, suc, length, Option, Some, None, eqb, Bool, true}
+use Rattle.std.proofs.Common.{false, if◌then◌else◌, ◌∷◌, refl, ap, sym, ◌∙◌, arith}
 use Rattle.std.specs.Option.{option_or}
 use Rattle.std.proofs.lemmas.Bool.{eqb-true, eqb-false}
 use Rattle.std.proofs.lemmas.Grind.{common_steps}

@@ -1,6 +1,7 @@
 -- What became of one pusher in this run, and what follows from it: what is in flight, when the
 -- pusher is due, and when a giving up is ripe. Ours; moments are in milliseconds.
-use Rattle.std.specs.Prelude.{◌≡◌, ℕ, ◌+◌, ◌-◌, ◌*◌, ◌^◌, ◌≤◌, min, List, [], ◌∷◌, length, Option, Some, None, IfSome, eqb, if◌then◌else◌}
+use Rattle.std.specs.Prelude.{◌≡◌, ℕ, ◌+◌, ◌-◌, ◌*◌, ◌^◌, ◌≤◌, min, List, [], ◌∷◌, length, Option, Some, None, IfSome}
+use Rattle.std.specs.Prelude.{eqb, if◌then◌else◌}
 use Rattle.std.specs.Option.{option_or}
 use Rattle.mx_pusher.specs.declared.failure.Failure.{Failure}
 

@@ -1,5 +1,6 @@
 -- What a pusher keeps of its course in this run, and of which courses it does.
-use Rattle.std.specs.Prelude.{◌≡◌, ℕ, ◌+◌, ◌-◌, ◌^◌, ◌≤◌, length, Option, Some, None, IfSome, option_map, eqb, if◌then◌else◌}
+use Rattle.std.specs.Prelude.{◌≡◌, ℕ, ◌+◌, ◌-◌, ◌^◌, ◌≤◌, length, Option, Some, None, IfSome, option_map, eqb}
+use Rattle.std.specs.Prelude.{if◌then◌else◌}
 use Rattle.mx_pusher.specs.declared.failure.Failure.{Failure}
 use Rattle.mx_pusher.specs.Course.{Course, flight_in, recent_failures, backoff, next_in, last_failed_in, first_failure}
 

@@ -1,4 +1,5 @@
-ghost use Rattle.std.specs.Prelude.{◌≡◌, ℕ, ◌+◌, ◌≤◌, ◌↔◌, [], ◌∷◌, length, Some, None, IsTrue, IfSome, IsSome, IsNone};
+ghost use Rattle.std.specs.Prelude.{◌≡◌, ℕ, ◌+◌, ◌≤◌, ◌↔◌, [], ◌∷◌, length, Some, None, IsTrue};
+ghost use Rattle.std.specs.Prelude.{IfSome, IsSome, IsNone};
 
 use crate::failure::Failure;
 use std::marker::Model;
@@ -48,8 +49,10 @@ impl Model for Pusher {
 }
 
 impl Pusher {
-    ghost use Rattle.mx_pusher.specs.Course.{posted, failed, settled, backoff, recent_failures, IsDue, IsRipe};
-    ghost use Rattle.mx_pusher.specs.Track.{StandsFor, EachCourse, IsNotBelow, last_failed, greatest_moment};
+    ghost use Rattle.mx_pusher.specs.Course.{posted, failed, settled, backoff, recent_failures};
+    ghost use Rattle.mx_pusher.specs.Course.{IsDue, IsRipe};
+    ghost use Rattle.mx_pusher.specs.Track.{StandsFor, EachCourse, IsNotBelow, last_failed};
+    ghost use Rattle.mx_pusher.specs.Track.{greatest_moment};
 
     /// A pusher of this number, of which nothing became yet in this run.
     pub fn new(number: u64) -> Pusher

@@ -1,5 +1,6 @@
 -- Where events stand, and up to where a thread is read, after one more entry.
-use Rattle.std.proofs.Common.{◌≡◌, ℕ, ◌+◌, ◌<◌, ◌≤◌, max, zero-le, nat_lt, nat_le, Bool, true, ◌&&◌, List, [], ◌∷◌, ◌++◌, map, filter, find, Some, option_map, unwrap_or, refl, ap, sym, subst, ◌∙◌, arith}
+use Rattle.std.proofs.Common.{◌≡◌, ℕ, ◌+◌, ◌<◌, ◌≤◌, max, zero-le, nat_lt, nat_le, Bool, true, ◌&&◌, List, [], ◌∷◌}
+use Rattle.std.proofs.Common.{◌++◌, map, filter, find, Some, option_map, unwrap_or, refl, ap, sym, subst, ◌∙◌, arith}
 use Rattle.std.specs.List.{list_all}
 use Rattle.std.specs.Str.{bytes_eq}
 use Rattle.std.proofs.lemmas.Bool.{and_parts, and_from, cond_both, le-leb, leb-true, lt-ltb}
@@ -12,9 +13,12 @@ use Rattle.mx_records.specs.declared.entry.Outcome.{Outcome}
 use Rattle.mx_records.specs.declared.input.Input.{Input}
 use Rattle.mx_records.specs.declared.input.Input.TheVariants.{Event, Edit, Receipt, Pusher}
 use Rattle.mx_records.specs.Cuts.{cut_at, cut_by, cut_of, greatest, moves, reaches}
-use Rattle.mx_records.specs.History.{Arrival, Happening, History, additions_after, arrivals, events, inputs_of, position_after, with_input, with_outcome}
+use Rattle.mx_records.specs.History.{Arrival, Happening, History, additions_after, arrivals, events, inputs_of}
+use Rattle.mx_records.specs.History.{position_after, with_input, with_outcome}
 use Rattle.mx_records.specs.Places.{is_event_with, position_of}
-use Rattle.mx_records.proofs.HistoryLemmas.{IsNoEvent, arrivals-outcome, arrivals-push, by_end, edit-no_event, events-other, events-outcome, events-push, inputs_of-outcome, inputs_of-push, next_event, receipt-no_event, pusher-no_event}
+use Rattle.mx_records.proofs.HistoryLemmas.{IsNoEvent, arrivals-outcome, arrivals-push, by_end, edit-no_event}
+use Rattle.mx_records.proofs.HistoryLemmas.{events-other, events-outcome, events-push, inputs_of-outcome}
+use Rattle.mx_records.proofs.HistoryLemmas.{inputs_of-push, next_event, receipt-no_event, pusher-no_event}
 
 -- ---- events rise
 

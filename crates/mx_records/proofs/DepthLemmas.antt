@@ -1,5 +1,6 @@
 -- How deep the object that stands for an input is nested, by what it holds.
-use Rattle.std.proofs.Common.{◌≡◌, ℕ, pos, suc, ◌+◌, ◌-◌, ◌<◌, ◌≤◌, max, nat_le, Bool, true, false, ◌&&◌, List, [], ◌∷◌, map, codes, drop, Option, Some, None, option_map, refl, ap, sym, subst, ◌∙◌, arith, rules}
+use Rattle.std.proofs.Common.{◌≡◌, ℕ, pos, suc, ◌+◌, ◌-◌, ◌<◌, ◌≤◌, max, nat_le, Bool, true, false, ◌&&◌, List, [], ◌∷◌}
+use Rattle.std.proofs.Common.{map, codes, drop, Option, Some, None, option_map, refl, ap, sym, subst, ◌∙◌, arith, rules}
 use Rattle.std.proofs.lemmas.Bool.Decides.{nat_tests}
 use Rattle.std.specs.List.{filter_map}
 use Rattle.std.specs.Option.{option_map_or}
@@ -14,7 +15,8 @@ use Rattle.mx_rule.specs.declared.kind.Kind.{Kind}
 use Rattle.mx_records.specs.declared.input.Input.TheVariants.{Event, Edit, Receipt, Pusher}
 use Rattle.mx_records.specs.declared.pusher_spec.HttpPusher.{HttpPusher}
 use Rattle.mx_records.specs.declared.pusher_spec.PusherSpec.{PusherSpec}
-use Rattle.mx_records.specs.Normal.{Field, edit_fields, field_depth, fields_depth, fields_given, given_pairs, kind_text, normal_of, object_of, privacy_text, pusher_fields, thread_text}
+use Rattle.mx_records.specs.Normal.{Field, edit_fields, field_depth, fields_depth, fields_given, given_pairs, kind_text}
+use Rattle.mx_records.specs.Normal.{normal_of, object_of, privacy_text, pusher_fields, thread_text}
 
 pub text-flat : (text : List ℕ) → depth_of (Text text) ≡ 0
 text-flat text = search (rules, the_lemmas)
@@ -78,7 +80,14 @@ delete-depth user sort id =
 pub enable-depth : (user : List ℕ) (sort : Kind) (id : List ℕ) (enabled : Bool)
     → fields_depth (edit_fields user (Enable sort id enabled)) ≡ 0
 enable-depth user sort id enabled =
-    omega (arith, text-flat (codes "rule_enable"), truth-flat enabled, text-flat (kind_text sort), text-flat id, text-flat user)
+    omega (
+      arith,
+      text-flat (codes "rule_enable"),
+      truth-flat enabled,
+      text-flat (kind_text sort),
+      text-flat id,
+      text-flat user,
+    )
 
 pub actions-depth : (user : List ℕ) (sort : Kind) (id : List ℕ) (actions : JsonList)
     → fields_depth (edit_fields user (SetActions sort id actions)) ≡ depth_of (ListOf actions)
@@ -100,7 +109,8 @@ receipt-depth user room event private thread =
 
 pub taken-depth : (spec : PusherSpec) → fields_depth (pusher_fields spec None) ≡ 0
 taken-depth spec =
-    omega (arith, text-flat spec.app_id, text-flat (codes "pusher"), null-flat, text-flat spec.pushkey, text-flat spec.user)
+    omega
+    (arith, text-flat spec.app_id, text-flat (codes "pusher"), null-flat, text-flat spec.pushkey, text-flat spec.user)
 
 pub posting-depth : (spec : PusherSpec) (http : HttpPusher)
     → fields_depth (pusher_fields spec (Some http)) ≡ depth_of (Object http.details)

@@ -1,5 +1,6 @@
 -- Each payload is that of one entry, and its text spells the entry's input.
-use Rattle.std.proofs.Common.{rules, codes, ◌≡◌, ◌<◌, ◌^◌, ℕ, List, [], ◌∷◌, ◌++◌, length, drop, take, cond, nat_eq, ◌≤◌, Option, Some, None, Result, Ok, Err, refl, ap, sym, subst, ◌∙◌, arith, inl, inr, ◌⊎◌}
+use Rattle.std.proofs.Common.{rules, codes, ◌≡◌, ◌<◌, ◌^◌, ℕ, List, [], ◌∷◌, ◌++◌, length, drop, take, cond, nat_eq}
+use Rattle.std.proofs.Common.{◌≤◌, Option, Some, None, Result, Ok, Err, refl, ap, sym, subst, ◌∙◌, arith, inl, inr, ◌⊎◌}
 use Rattle.std.specs.Result.{result_ok}
 use Rattle.std.specs.Int.{w64, to_le_bytes, from_le_bytes}
 use Rattle.std.proofs.lemmas.Nat.{from_le_bytes-to_le_bytes_8}
@@ -19,14 +20,16 @@ use Rattle.mx_records.specs.declared.entry_error.EntryError.{EntryError}
 use Rattle.mx_records.specs.declared.entry_error.EntryError.TheVariants.{BadEntry, OutOfMemory}
 use Rattle.mx_records.specs.declared.input.Input.{Input}
 use Rattle.mx_records.specs.declared.input.Input.TheVariants.{Event}
-use Rattle.mx_records.specs.Entries.{eight_bytes, input_read, input_spelled, outcome_tag, payload_of, pusher_of, settled_by, IsEntry, IsPayloadOf}
+use Rattle.mx_records.specs.Entries.{eight_bytes, input_read, input_spelled, outcome_tag, payload_of, pusher_of}
+use Rattle.mx_records.specs.Entries.{settled_by, IsEntry, IsPayloadOf}
 use Rattle.mx_records.specs.Normal.{fields_given, given_pairs, normal_of, IsNormal}
 
 -- the text of a normal input spells it
 pub spelled-canonical : (input : Input) → IsNormal input → input_spelled (canonical (normal_of input)) ≡ Some input
 unfolding input_spelled
 spelled-canonical input normal =
-    ap input_read (read_json-canonical (normal_of input) 127 normal.valid (is_valid_parts (normal_of input) normal.valid).2)
+    ap input_read
+    (read_json-canonical (normal_of input) 127 normal.valid (is_valid_parts (normal_of input) normal.valid).2)
     ∙ ap result_ok normal.reads
 
 -- ---- bytes that begin with the tag of an input
@@ -44,12 +47,17 @@ no_input_tag (Rejected pusher position) is = omega (arith, is)
 
 -- an entry whose payload has the tag of an input is the input that the text spells
 pub input-entry : (payload text : List ℕ) (entry : Entry) → payload ≡ 1 ∷ text → IsPayloadOf payload entry
-    → (input : Input) × (entry ≡ InputEntry input) × (input_spelled text ≡ Some input) × (payload ≡ payload_of (InputEntry input))
+    → (input : Input) × (entry ≡ InputEntry input) × (input_spelled text ≡ Some input)
+    × (payload ≡ payload_of (InputEntry input))
 unfolding payload_of
 input-entry payload text (OutcomeEntry outcome) is of =
     absurd (no_input_tag outcome (head-same _ _ _ _ (sym is ∙ of.payload)))
-input-entry payload text (InputEntry input) is of =
-    (input, refl, ap input_spelled (tail-same _ _ _ _ (sym is ∙ of.payload)) ∙ spelled-canonical input of.entry_is, of.payload)
+input-entry payload text (InputEntry input) is of = (
+  input,
+  refl,
+  ap input_spelled (tail-same _ _ _ _ (sym is ∙ of.payload)) ∙ spelled-canonical input of.entry_is,
+  of.payload,
+)
 
 -- ---- outcomes
 
@@ -70,7 +78,8 @@ numbers-same a b p q below_a below_b below_p below_q is = (
 -- an outcome, by its tag, its pusher and its position
 abbrev by_tag : ℕ → ℕ → ℕ → Outcome
 by_tag tag pusher position =
-    cond (nat_eq tag 2) (Pushed pusher position) (cond (nat_eq tag 3) (GaveUp pusher position) (Rejected pusher position))
+    cond (nat_eq tag 2) (Pushed pusher position)
+    (cond (nat_eq tag 3) (GaveUp pusher position) (Rejected pusher position))
 
 rebuilt : (outcome : Outcome) → by_tag (outcome_tag outcome) (pusher_of outcome) (settled_by outcome) ≡ outcome
 rebuilt (Pushed pusher position) = refl
@@ -84,7 +93,8 @@ unfolding payload_of
 outcome-same one other fits fits_other is =
     let tags : outcome_tag one ≡ outcome_tag other = head-same _ _ _ _ is in
     let rests = tail-same _ _ _ _ is in
-    let numbers = numbers-same (pusher_of one) (settled_by one) (pusher_of other) (settled_by other) fits.0 fits.1 fits_other.0 fits_other.1 rests in
+    let numbers = numbers-same (pusher_of one) (settled_by one) (pusher_of other)
+    (settled_by other) fits.0 fits.1 fits_other.0 fits_other.1 rests in
     sym (rebuilt one) ∙ (λ i. by_tag (tags i) (numbers.0 i) (numbers.1 i)) ∙ rebuilt other
 
 tags-same : (input : Input) (outcome : Outcome) → payload_of (InputEntry input) ≡ payload_of (OutcomeEntry outcome)
@@ -102,7 +112,8 @@ outcome-entry payload (InputEntry input) outcome is fits of =
 
 -- bytes with another tag than those of entries, and bytes that are no outcome's, are no payload
 
-pub no_entry : (tag : ℕ) (rest : List ℕ) (entry : Entry) → ((1 ≤ tag) × (tag ≤ 4) → ⊥) → IsPayloadOf (tag ∷ rest) entry → ⊥
+pub no_entry : (tag : ℕ) (rest : List ℕ) (entry : Entry) → ((1 ≤ tag) × (tag ≤ 4) → ⊥)
+    → IsPayloadOf (tag ∷ rest) entry → ⊥
 unfolding payload_of
 no_entry tag rest (InputEntry input) out of =
     let is : tag ≡ 1 = head-same _ _ _ _ of.payload in out (omega (arith, is), omega (arith, is))
@@ -139,7 +150,8 @@ unspelled payload text entry is of none =
     cc
 
 -- where it spells one, the entry is that input
-pub spelled-entry : (payload text : List ℕ) (entry : Entry) (input : Input) → payload ≡ 1 ∷ text → IsPayloadOf payload entry
+pub spelled-entry : (payload text : List ℕ) (entry : Entry) (input : Input) → payload ≡ 1 ∷ text
+    → IsPayloadOf payload entry
     → Some input ≡ input_spelled text → (entry ≡ InputEntry input) × (payload ≡ payload_of (InputEntry input))
 spelled-entry payload text entry input is of has =
     let found = input-entry payload text entry is of in
@@ -160,7 +172,8 @@ pub event-payload : (event : Json) (front : List ℕ) → front ≡ 1 ∷ codes 
 unfolding payload_of escape_byte
 event-payload event front is =
     ap (λ text. 1 ∷ text) (canonical-Object (record { pairs = given_pairs (fields_given (Event event)) })
-    ∙ ap (λ cmd. object_text (record { pairs = (codes "cmd", cmd) ∷ (codes "event", canonical event) ∷ [] })) event-word)
+    ∙ ap
+    (λ cmd. object_text (record { pairs = (codes "cmd", cmd) ∷ (codes "event", canonical event) ∷ [] })) event-word)
     ∙ ap (λ f. (f ++ canonical event) ++ 125 ∷ []) (sym is)
 
 -- the same, step by step

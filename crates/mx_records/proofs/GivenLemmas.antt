@@ -1,23 +1,30 @@
 -- What stands under a key of an object that has the fields that are given, and when such an object is valid.
-use Rattle.std.proofs.Common.{◌≡◌, ℕ, ℤ, pos, ◌≤◌, max, Bool, true, false, cond, ◌&&◌, List, [], ◌∷◌, map, codes, Option, Some, None, is_some, option_map, option_and_then, unwrap_or, ◌++◌, Result, Ok, Err, IfOk, refl, ap, sym, subst, ◌∙◌, arith, rules}
+use Rattle.std.proofs.Common.{◌≡◌, ℕ, ℤ, pos, ◌≤◌, max, Bool, true, false, cond, ◌&&◌, List, [], ◌∷◌, map, codes}
+use Rattle.std.proofs.Common.{Option, Some, None, is_some, option_map, option_and_then, unwrap_or, ◌++◌, Result, Ok}
+use Rattle.std.proofs.Common.{Err, IfOk, refl, ap, sym, subst, ◌∙◌, arith, rules}
 use Rattle.std.proofs.lemmas.Bool.{and_from, and_parts}
 use Rattle.std.proofs.lemmas.List.{append_assoc}
 use Rattle.std.proofs.lemmas.List.Elements.{filter_map-append}
 use Rattle.std.specs.List.{cons_option, filter_map, list_all}
 use Rattle.std.specs.Option.{option_map_or, option_or}
 use Rattle.std.specs.Str.{bytes_eq, is_utf8}
-use Rattle.mx_json.specs.declared.value.Json.{Json, Null, Truth, Whole, Text, List as ListOf, Object, out-Json, roll-Json, roll-out-Json, the_lemmas}
+use Rattle.mx_json.specs.declared.value.Json.{Json, Null, Truth, Whole, Text, List as ListOf, Object, out-Json}
+use Rattle.mx_json.specs.declared.value.Json.{roll-Json, roll-out-Json, the_lemmas}
 use Rattle.mx_json.specs.declared.value.Json.TheOpen.{Json-F}
-use Rattle.mx_json.specs.declared.value.Json.TheVariants.{rolls-Truth, rolls-Whole, rolls-Text, rolls-List, rolls-Object}
+use Rattle.mx_json.specs.declared.value.Json.TheVariants.{rolls-Truth, rolls-Whole, rolls-Text, rolls-List}
+use Rattle.mx_json.specs.declared.value.Json.TheVariants.{rolls-Object}
 use Rattle.mx_json.specs.declared.value.JsonList.{JsonList}
 use Rattle.mx_json.specs.declared.value.JsonObject.{JsonObject}
-use Rattle.mx_json.specs.Json.{are_rising, depth_of, is_object, is_object_at_top, is_valid, largest, list_at, list_of, member, member_in, text_at, text_of, text_or_empty, top_list, top_pairs, top_text, top_truth, top_whole, truth_at, truth_of, whole_at, whole_of}
+use Rattle.mx_json.specs.Json.{are_rising, depth_of, is_object, is_object_at_top, is_valid, largest, list_at, list_of}
+use Rattle.mx_json.specs.Json.{member, member_in, text_at, text_of, text_or_empty, top_list, top_pairs, top_text}
+use Rattle.mx_json.specs.Json.{top_truth, top_whole, truth_at, truth_of, whole_at, whole_of}
 use Rattle.mx_json.proofs.JsonLemmas.{depth_of-Object, is_valid-member, is_valid_parts, with_value}
 use Rattle.mx_json.proofs.LookLemmas.{member-Object}
 use Rattle.mx_json.proofs.ObjectLemmas.{is_fit, is_fit-Null, is_fit-Text, is_fit_from, is_utf8-ascii, is_valid-Object}
 use Rattle.mx_json.proofs.RisingLemmas.{keys_of}
 use Rattle.mx_records.specs.Forms.{given_list, has_list_or_none, has_text_or_none, has_truth_or_none, is_null}
-use Rattle.mx_records.specs.Normal.{Field, given_pair, given_pairs, list_field, list_if_given, object_of, text_field, text_if_given, truth_if_given}
+use Rattle.mx_records.specs.Normal.{Field, given_pair, given_pairs, list_field, list_if_given, object_of, text_field}
+use Rattle.mx_records.specs.Normal.{text_if_given, truth_if_given}
 
 -- ---- what stands under a key
 
@@ -88,7 +95,8 @@ text-layer : (layer : Layer) (text : List ℕ) → top_text layer ≡ Some text 
 text-layer (Json-F.Text told) text is = let same : told ≡ text = cc in rolls-Text told ∙ ap Text same
 text-layer other text is = absurd cc
 
-list-layer : (layer : Layer) (items : List Json) → top_list layer ≡ Some items → roll-Json layer ≡ ListOf (record { items = items })
+list-layer : (layer : Layer) (items : List Json) → top_list layer ≡ Some items
+    → roll-Json layer ≡ ListOf (record { items = items })
 list-layer (Json-F.List list) items is =
     let same : list.items ≡ items = cc in rolls-List list ∙ ap (λ (is : List Json). ListOf (record { items = is })) same
 list-layer other items is = absurd cc
@@ -101,7 +109,8 @@ whole-layer : (layer : Layer) (number : ℤ) → top_whole layer ≡ Some number
 whole-layer (Json-F.Whole told) number is = let same : told ≡ number = cc in rolls-Whole told ∙ ap Whole same
 whole-layer other number is = absurd cc
 
-object-layer : (layer : Layer) → is_object_at_top layer ≡ true → roll-Json layer ≡ Object (record { pairs = top_pairs layer })
+object-layer : (layer : Layer) → is_object_at_top layer ≡ true
+    → roll-Json layer ≡ Object (record { pairs = top_pairs layer })
 object-layer (Json-F.Object object) is = rolls-Object object
 object-layer other is = absurd cc
 
@@ -121,7 +130,8 @@ pub list-member : (key : List ℕ) (json : Json) (items : List Json) → list_at
     → member key json ≡ Some (ListOf (record { items = items }))
 list-member key json items is = by (member key json) is
   where
-    by : (found : Option Json) → option_and_then list_of found ≡ Some items → found ≡ Some (ListOf (record { items = items }))
+    by : (found : Option Json) → option_and_then list_of found ≡ Some items
+        → found ≡ Some (ListOf (record { items = items }))
     by None is = absurd cc
     by (Some json) is = ap (λ j. Some j) (sym (roll-out-Json json) ∙ list-layer (out-Json json) items is)
 
@@ -144,24 +154,29 @@ whole-member key json number is = by (member key json) is
 -- ---- what is read under a key of an object that has these fields
 
 module _ (key : List ℕ) (fields : List Field) where
-  pub text-read : (text : Option (List ℕ)) → look key fields ≡ option_map Text text → text_at key (object_of fields) ≡ text
+  pub text-read : (text : Option (List ℕ)) → look key fields ≡ option_map Text text
+      → text_at key (object_of fields) ≡ text
   text-read text is = ap (option_and_then text_of) (member-given key fields ∙ is) ∙ by text
     where
       by : (text : Option (List ℕ)) → option_and_then text_of (option_map Text text) ≡ text
       by None = refl
       by (Some text) = text_of-Text text
 
-  pub text-or_none : (text : Option (List ℕ)) → look key fields ≡ option_map Text text → has_text_or_none key (object_of fields) ≡ true
+  pub text-or_none : (text : Option (List ℕ)) → look key fields ≡ option_map Text text
+      → has_text_or_none key (object_of fields) ≡ true
   text-or_none text is =
       ap (λ found. option_map_or (λ value. is_some (text_of value)) found true) (member-given key fields ∙ is) ∙ by text
     where
-      by : (text : Option (List ℕ)) → option_map_or (λ value. is_some (text_of value)) (option_map Text text) true ≡ true
+      by : (text : Option (List ℕ))
+          → option_map_or (λ value. is_some (text_of value)) (option_map Text text) true ≡ true
       by None = refl
       by (Some text) = ap is_some (text_of-Text text)
 
-  pub list-read : (list : Option JsonList) → look key fields ≡ option_map ListOf list → given_list key (object_of fields) ≡ list
+  pub list-read : (list : Option JsonList) → look key fields ≡ option_map ListOf list
+      → given_list key (object_of fields) ≡ list
   list-read list is =
-      ap (λ found. option_map (λ items. record { items = items }) (option_and_then list_of found)) (member-given key fields ∙ is)
+      ap (λ found. option_map (λ items. record { items = items }) (option_and_then list_of found))
+      (member-given key fields ∙ is)
       ∙ by list
     where
       by : (list : Option JsonList)
@@ -169,30 +184,37 @@ module _ (key : List ℕ) (fields : List Field) where
       by None = refl
       by (Some list) = ap (option_map (λ items. record { items = items })) (list_of-List list)
 
-  pub list-or_none : (list : Option JsonList) → look key fields ≡ option_map ListOf list → has_list_or_none key (object_of fields) ≡ true
+  pub list-or_none : (list : Option JsonList) → look key fields ≡ option_map ListOf list
+      → has_list_or_none key (object_of fields) ≡ true
   list-or_none list is =
       ap (λ found. option_map_or (λ value. is_some (list_of value)) found true) (member-given key fields ∙ is) ∙ by list
     where
-      by : (list : Option JsonList) → option_map_or (λ value. is_some (list_of value)) (option_map ListOf list) true ≡ true
+      by : (list : Option JsonList)
+          → option_map_or (λ value. is_some (list_of value)) (option_map ListOf list) true ≡ true
       by None = refl
       by (Some list) = ap is_some (list_of-List list)
 
-  pub truth-read : (truth : Option Bool) → look key fields ≡ option_map Truth truth → truth_at key (object_of fields) ≡ truth
+  pub truth-read : (truth : Option Bool) → look key fields ≡ option_map Truth truth
+      → truth_at key (object_of fields) ≡ truth
   truth-read truth is = ap (option_and_then truth_of) (member-given key fields ∙ is) ∙ by truth
     where
       by : (truth : Option Bool) → option_and_then truth_of (option_map Truth truth) ≡ truth
       by None = refl
       by (Some truth) = truth_of-Truth truth
 
-  pub truth-or_none : (truth : Option Bool) → look key fields ≡ option_map Truth truth → has_truth_or_none key (object_of fields) ≡ true
+  pub truth-or_none : (truth : Option Bool) → look key fields ≡ option_map Truth truth
+      → has_truth_or_none key (object_of fields) ≡ true
   truth-or_none truth is =
-      ap (λ found. option_map_or (λ value. is_some (truth_of value)) found true) (member-given key fields ∙ is) ∙ by truth
+      ap (λ found. option_map_or (λ value. is_some (truth_of value)) found true) (member-given key fields ∙ is)
+      ∙ by truth
     where
-      by : (truth : Option Bool) → option_map_or (λ value. is_some (truth_of value)) (option_map Truth truth) true ≡ true
+      by : (truth : Option Bool)
+          → option_map_or (λ value. is_some (truth_of value)) (option_map Truth truth) true ≡ true
       by None = refl
       by (Some truth) = ap is_some (truth_of-Truth truth)
 
-  pub list_at-read : (list : JsonList) → look key fields ≡ Some (ListOf list) → list_at key (object_of fields) ≡ Some list.items
+  pub list_at-read : (list : JsonList) → look key fields ≡ Some (ListOf list)
+      → list_at key (object_of fields) ≡ Some list.items
   list_at-read list is = ap (option_and_then list_of) (member-given key fields ∙ is) ∙ list_of-List list
 
   pub whole-read : (number : ℤ) → look key fields ≡ Some (Whole number) → whole_at key (object_of fields) ≡ Some number
@@ -213,7 +235,8 @@ pub joined : {E : Type 0} (first rest : List Field) (pairs : List (List ℕ × J
     → IfOk result (λ json. json ≡ object_of (first ++ rest))
 joined first rest pairs (Ok json) begun is =
     is ∙ ap (λ (all : List (List ℕ × Json)). Object (record { pairs = all ++ given_pairs rest })) begun
-    ∙ ap (λ (all : List (List ℕ × Json)). Object (record { pairs = all })) (sym (filter_map-append given_pair first rest))
+    ∙ ap (λ (all : List (List ℕ × Json)). Object (record { pairs = all }))
+    (sym (filter_map-append given_pair first rest))
 joined first rest pairs (Err error) begun is = tt
 
 -- ---- when an object is valid
@@ -234,7 +257,8 @@ fit-given (field ∷ fields) fit =
     fit-first field.0 field.1 (given_pairs fields) parts.0 (fit-given fields parts.1)
 
 -- an object whose fields are by rising key, and fit, is valid
-pub valid-object : (fields : List Field) → are_rising (keys_of (given_pairs fields)) ≡ true → list_all fits fields ≡ true
+pub valid-object : (fields : List Field) → are_rising (keys_of (given_pairs fields)) ≡ true
+    → list_all fits fields ≡ true
     → is_valid (object_of fields) ≡ true
 valid-object fields rising fit = is_valid-Object (record { pairs = given_pairs fields }) rising (fit-given fields fit)
 
@@ -261,7 +285,8 @@ depth-among key (pair ∷ pairs) json is =
     (depth-among key pairs json) is
 
 abbrev IsWithin : List ℕ → Layer → Json → Type 0
-IsWithin key layer json = depth_of (roll-Json layer) ≤ 127 → member_in key (top_pairs layer) ≡ Some json → depth_of json ≤ 126
+IsWithin key layer json = depth_of (roll-Json layer) ≤ 127 → member_in key (top_pairs layer) ≡ Some json
+    → depth_of json ≤ 126
 
 within-layer : (key : List ℕ) (layer : Layer) (json : Json) → IsWithin key layer json
 within-layer key (Json-F.Object object) json = λ deep is.
@@ -273,7 +298,8 @@ within-layer key other json = λ deep is. absurd cc
 pub fit-member : (key : List ℕ) (whole json : Json) → is_utf8 key ≡ true → is_valid whole ≡ true
     → member key whole ≡ Some json → is_fit (key, json) ≡ true
 fit-member key whole json utf8 valid is =
-    let deep : depth_of (roll-Json (out-Json whole)) ≤ 127 = subst (λ j. depth_of j ≤ 127) (sym (roll-out-Json whole)) (is_valid_parts whole valid).2 in
+    let deep : depth_of (roll-Json (out-Json whole)) ≤ 127 =
+    subst (λ j. depth_of j ≤ 127) (sym (roll-out-Json whole)) (is_valid_parts whole valid).2 in
     is_fit_from key json utf8 (is_valid-member key whole json valid is) (within-layer key (out-Json whole) json deep is)
 
 module _ (key : List ℕ) (json : Json) (utf8 : is_utf8 key ≡ true) (valid : is_valid json ≡ true) where
@@ -320,7 +346,8 @@ module _ (key : List ℕ) (json : Json) (utf8 : is_utf8 key ≡ true) (valid : i
   fits-list = by (list_at key json) refl
     where
       by : (items : Option (List Json)) → list_at key json ≡ items → is_some items ≡ true
-          → fits (list_field key (unwrap_or (option_map (λ items. record { items = items }) items) (record { items = [] }))) ≡ true
+          → fits (list_field key
+          (unwrap_or (option_map (λ items. record { items = items }) items) (record { items = [] }))) ≡ true
       by None is some = absurd cc
       by (Some items) is some =
           fit-member key json (ListOf (record { items = items })) utf8 valid (list-member key json items is)

@@ -1,5 +1,6 @@
 -- How a history, and what is read off it, goes on by one entry.
-use Rattle.std.proofs.Common.{◌≡◌, ℕ, ◌+◌, Bool, List, [], ◌∷◌, ◌++◌, length, map, Option, None, refl, ap, sym, subst, ◌∙◌}
+use Rattle.std.proofs.Common.{◌≡◌, ℕ, ◌+◌, Bool, List, [], ◌∷◌, ◌++◌, length, map, Option, None, refl, ap, sym, subst}
+use Rattle.std.proofs.Common.{◌∙◌}
 use Rattle.std.specs.List.{cons_option, filter_map, fold}
 use Rattle.std.proofs.Common.{length-append}
 use Rattle.std.proofs.lemmas.List.{append-nil, append_assoc, map-append}
@@ -19,7 +20,9 @@ use Rattle.mx_records.specs.declared.entry.Outcome.{Outcome}
 use Rattle.mx_records.specs.declared.input.Input.{Input}
 use Rattle.mx_records.specs.declared.input.Input.TheVariants.{Event, Edit as EditInput, Receipt, Pusher}
 use Rattle.mx_records.specs.declared.pusher_spec.PusherSpec.{PusherSpec}
-use Rattle.mx_records.specs.History.{Arrival, History, Happening, additions, additions_after, arrival_of, arrivals, events, happening_by, happening_of, input_of, inputs_in, inputs_of, with_entry, with_input, with_outcome}
+use Rattle.mx_records.specs.History.{Arrival, History, Happening, additions, additions_after, arrival_of, arrivals}
+use Rattle.mx_records.specs.History.{events, happening_by, happening_of, input_of, inputs_in, inputs_of, with_entry}
+use Rattle.mx_records.specs.History.{with_input, with_outcome}
 use Rattle.mx_records.specs.Places.{places_of, with_place}
 use Rattle.mx_records.specs.Rooms.{events_of, room_after}
 

@@ -1,5 +1,6 @@
 -- What is kept of the unread rows, by user and room: exactly those of each, and nothing that is empty.
-use Rattle.std.proofs.Common.{◌≡◌, ℕ, Bool, true, false, cond, ◌&&◌, ◌||◌, List, [], ◌∷◌, ◌++◌, map, filter, nat_eq, Option, Some, None, ◌⊎◌, inl, inr, ⊎_elim, unwrap_or, refl, ap, subst, sym, ◌∙◌}
+use Rattle.std.proofs.Common.{◌≡◌, ℕ, Bool, true, false, cond, ◌&&◌, ◌||◌, List, [], ◌∷◌, ◌++◌, map, filter, nat_eq}
+use Rattle.std.proofs.Common.{Option, Some, None, ◌⊎◌, inl, inr, ⊎_elim, unwrap_or, refl, ap, subst, sym, ◌∙◌}
 use Rattle.std.specs.Cmp.Lexicographic.{slice_cmp}
 use Rattle.std.specs.FinMap.{empty, empty_of_len, get, get-empty, len, len-empty}
 use Rattle.std.specs.List.{IsDistinct, cons_option, filter_map, list_any}
@@ -28,8 +29,11 @@ use Rattle.mx_records.specs.History.{Happening, History, additions_after, events
 use Rattle.mx_records.specs.Judging.{notifies}
 use Rattle.mx_records.specs.KeptRows.{HaveRooms, HaveRows, thread_rows}
 use Rattle.mx_records.specs.Rooms.{events_of}
-use Rattle.mx_records.specs.Snapshot.{RoomRows, by_room, by_user, room_rows, rows_at, rows_by_thread, some_rooms, some_rows, unread_rows}
-use Rattle.mx_records.proofs.HistoryLemmas.{IsNoEvent, by_end, edit-no_event, events-other, events-outcome, events-push, events_of-other, events_of-outcome, events_of-push, next_event, receipt-no_event, pusher-no_event}
+use Rattle.mx_records.specs.Snapshot.{RoomRows, by_room, by_user, room_rows, rows_at, rows_by_thread, some_rooms}
+use Rattle.mx_records.specs.Snapshot.{some_rows, unread_rows}
+use Rattle.mx_records.proofs.HistoryLemmas.{IsNoEvent, by_end, edit-no_event, events-other, events-outcome, events-push}
+use Rattle.mx_records.proofs.HistoryLemmas.{events_of-other, events_of-outcome, events_of-push, next_event}
+use Rattle.mx_records.proofs.HistoryLemmas.{receipt-no_event, pusher-no_event}
 use Rattle.mx_records.proofs.NoticeLemmas.{notice-unnamed}
 use Rattle.mx_records.proofs.ThreadLemmas.{has-threads_of, threads_of-only}
 use Rattle.mx_records.proofs.UnreadLemmas.{same_thread-same}

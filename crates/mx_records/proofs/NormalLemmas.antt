@@ -1,5 +1,7 @@
 -- The object that stands for an input is read as that input again.
-use Rattle.std.proofs.Common.{◌≡◌, ℕ, ◌==◌, ℤ, pos, Bool, true, false, cond, ◌&&◌, List, [], ◌∷◌, ◌++◌, map, codes, Option, Some, None, is_some, option_map, option_and_then, unwrap_or, Ok, refl, ap, sym, subst, ◌∙◌}
+use Rattle.std.proofs.Common.{◌≡◌, ℕ, ◌==◌, ℤ, pos, Bool, true, false, cond, ◌&&◌, List, [], ◌∷◌, ◌++◌, map, codes}
+use Rattle.std.proofs.Common.{Option, Some, None, is_some, option_map, option_and_then, unwrap_or, Ok, refl, ap, sym}
+use Rattle.std.proofs.Common.{subst, ◌∙◌}
 use Rattle.std.proofs.lemmas.Bool.{and_from, and_parts, eqb-true}
 use Rattle.std.specs.List.{list_all}
 use Rattle.std.specs.Option.{option_map_or, option_or}
@@ -14,17 +16,27 @@ use Rattle.mx_rule.specs.declared.edit.Edit.TheVariants.{Put, Delete, Enable, Se
 use Rattle.mx_rule.specs.declared.kind.Kind.{Kind}
 use Rattle.mx_rule.specs.declared.kind.Kind.TheVariants as kind
 use Rattle.mx_records.specs.declared.field_name.FieldName.{FieldName}
-use Rattle.mx_records.specs.declared.field_name.FieldName.TheVariants.{User, Kind as KindField, RuleId, Actions, Conditions, Pattern, Before, After, Enabled, RoomId, EventId, ReceiptKind, ThreadId}
+use Rattle.mx_records.specs.declared.field_name.FieldName.TheVariants.{User, Kind as KindField, RuleId, Actions}
+use Rattle.mx_records.specs.declared.field_name.FieldName.TheVariants.{Conditions, Pattern, Before, After, Enabled}
+use Rattle.mx_records.specs.declared.field_name.FieldName.TheVariants.{RoomId, EventId, ReceiptKind, ThreadId}
 use Rattle.mx_records.specs.declared.input.Input.{Input}
 use Rattle.mx_records.specs.declared.input.Input.TheVariants.{Event, Edit, Receipt}
 use Rattle.mx_records.specs.declared.input_error.InputError.TheVariants.{BadField}
 use Rattle.mx_records.specs.declared.input_word.InputWord.{InputWord}
-use Rattle.mx_records.specs.declared.input_word.InputWord.TheVariants.{Event as EventWord, RulePut, RuleDelete, RuleEnable, RuleActions, Receipt as ReceiptWord}
-use Rattle.mx_records.specs.Forms.{Form, actions_field, actions_in, anchor_fields, edited_kind_in, event_form, event_id_in, event_in, given_list, given_thread, has_list_or_none, has_text_or_none, has_thread_or_none, input_form_of, input_in, is_rule_id, kind_in, kind_named, name_in_event, privacy_in, privacy_named, put_fields, put_form, delete_form, enable_form, set_actions_form, read_fields, receipt_form, room_id_in, rule_fields, rule_id_in, thread_named, thread_told, user_in, value_of_form}
+use Rattle.mx_records.specs.declared.input_word.InputWord.TheVariants.{Event as EventWord, RulePut, RuleDelete}
+use Rattle.mx_records.specs.declared.input_word.InputWord.TheVariants.{RuleEnable, RuleActions, Receipt as ReceiptWord}
+use Rattle.mx_records.specs.Forms.{Form, actions_field, actions_in, anchor_fields, edited_kind_in, event_form}
+use Rattle.mx_records.specs.Forms.{event_id_in, event_in, given_list, given_thread, has_list_or_none, has_text_or_none}
+use Rattle.mx_records.specs.Forms.{has_thread_or_none, input_form_of, input_in, is_rule_id, kind_in, kind_named}
+use Rattle.mx_records.specs.Forms.{name_in_event, privacy_in, privacy_named, put_fields, put_form, delete_form}
+use Rattle.mx_records.specs.Forms.{enable_form, set_actions_form, read_fields, receipt_form, room_id_in, rule_fields}
+use Rattle.mx_records.specs.Forms.{rule_id_in, thread_named, thread_told, user_in, value_of_form}
 use Rattle.mx_records.specs.InputWords.{input_word_in, input_word_named}
-use Rattle.mx_records.specs.Normal.{Field, edit_fields, fields_given, kind_text, normal_of, object_of, privacy_text, text_field, thread_text}
+use Rattle.mx_records.specs.Normal.{Field, edit_fields, fields_given, kind_text, normal_of, object_of, privacy_text}
+use Rattle.mx_records.specs.Normal.{text_field, thread_text}
 use Rattle.mx_records.proofs.FormLemmas.{AreRight, given-right, input_in-form, right-both}
-use Rattle.mx_records.proofs.GivenLemmas.{list-or_none, list-read, list_at-read, look, member-given, or_none, text-or_none, text-read, text_of-Text, truth-read}
+use Rattle.mx_records.proofs.GivenLemmas.{list-or_none, list-read, list_at-read, look, member-given, or_none}
+use Rattle.mx_records.proofs.GivenLemmas.{text-or_none, text-read, text_of-Text, truth-read}
 
 -- ---- forms that are right
 
@@ -82,11 +94,13 @@ pub event-reads : (event : Json) → AreRight (event_form (object_of (fields_giv
     → input_in (normal_of (Event event)) ≡ Ok (Event event)
 unfolding input_word_named
 event-reads event right =
-    reads-form (fields_given (Event event)) EventWord (codes "event") (event_form (normal_of (Event event))) (Event event)
+    reads-form (fields_given (Event event)) EventWord (codes "event") (event_form (normal_of (Event event)))
+    (Event event)
     refl refl refl right (ap Event (event_in-given event))
   where
     event_in-given : (event : Json) → event_in (normal_of (Event event)) ≡ event
-    event_in-given event = ap (λ found. unwrap_or found Null) (member-given (codes "event") (fields_given (Event event)))
+    event_in-given event =
+        ap (λ found. unwrap_or found Null) (member-given (codes "event") (fields_given (Event event)))
 
 pub event_in-normal : (event : Json) → event_in (normal_of (Event event)) ≡ event
 event_in-normal event = ap (λ found. unwrap_or found Null) (member-given (codes "event") (fields_given (Event event)))
@@ -109,7 +123,8 @@ module _ (fields : List Field) (user : List ℕ) (sort : Kind) (id : List ℕ)
   user-is = ap (λ o. unwrap_or o []) (text-read (codes "user") fields (Some user) has_user)
 
   kind_in-is : kind_in (object_of fields) ≡ Some sort
-  kind_in-is = ap (option_and_then kind_named) (text-read (codes "kind") fields (Some (kind_text sort)) has_kind) ∙ kind-named sort
+  kind_in-is = ap (option_and_then kind_named) (text-read (codes "kind") fields (Some (kind_text sort)) has_kind)
+      ∙ kind-named sort
 
   kind-is : edited_kind_in (object_of fields) ≡ sort
   kind-is = ap (λ o. unwrap_or o kind.Override) kind_in-is
@@ -129,25 +144,32 @@ put_rest json =
     actions_field json ∷ (Conditions, has_list_or_none (codes "conditions") json)
     ∷ (Pattern, has_text_or_none (codes "pattern") json) ∷ anchor_fields json
 
-module _ (user : List ℕ) (sort : Kind) (id : List ℕ) (local : is_user_id user ≡ true) (fits : is_rule_id id ≡ true) where
+module _ (user : List ℕ) (sort : Kind) (id : List ℕ) (local : is_user_id user ≡ true)
+    (fits : is_rule_id id ≡ true) where
   pub delete-reads : input_in (normal_of (Edit user (Delete sort id))) ≡ Ok (Edit user (Delete sort id))
   unfolding input_word_named
   delete-reads =
       let fields = edit_fields user (Delete sort id) in
-      reads-form fields RuleDelete (codes "rule_delete") (delete_form (object_of fields)) (Edit user (Delete sort id)) refl refl refl
+      reads-form fields RuleDelete (codes "rule_delete") (delete_form (object_of fields))
+      (Edit user (Delete sort id)) refl refl refl
       (rule-right fields user sort id refl refl refl local fits)
-      (λ i. Edit (user-is fields user sort id refl refl refl i) (Delete (kind-is fields user sort id refl refl refl i) (id-is fields user sort id refl refl refl i)))
+      (λ i. Edit (user-is fields user sort id refl refl refl i)
+      (Delete (kind-is fields user sort id refl refl refl i) (id-is fields user sort id refl refl refl i)))
 
-  pub enable-reads : (enabled : Bool) → input_in (normal_of (Edit user (Enable sort id enabled))) ≡ Ok (Edit user (Enable sort id enabled))
+  pub enable-reads : (enabled : Bool)
+      → input_in (normal_of (Edit user (Enable sort id enabled))) ≡ Ok (Edit user (Enable sort id enabled))
   unfolding input_word_named
   enable-reads enabled =
       let fields = edit_fields user (Enable sort id enabled) in
       let is = truth-read (codes "enabled") fields (Some enabled) refl in
-      reads-form fields RuleEnable (codes "rule_enable") (enable_form (object_of fields)) (Edit user (Enable sort id enabled)) refl refl refl
-      (right-both (rule_fields (object_of fields)) ((Enabled, is_some (truth_at (codes "enabled") (object_of fields))) ∷ [])
+      reads-form fields RuleEnable (codes "rule_enable") (enable_form (object_of fields))
+      (Edit user (Enable sort id enabled)) refl refl refl
+      (right-both (rule_fields (object_of fields))
+      ((Enabled, is_some (truth_at (codes "enabled") (object_of fields))) ∷ [])
       (rule-right fields user sort id refl refl refl local fits) (right-cons Enabled _ [] (ap is_some is) refl))
       (λ i. Edit (user-is fields user sort id refl refl refl i)
-      (Enable (kind-is fields user sort id refl refl refl i) (id-is fields user sort id refl refl refl i) (unwrap_or (is i) false)))
+      (Enable (kind-is fields user sort id refl refl refl i) (id-is fields user sort id refl refl refl i)
+      (unwrap_or (is i) false)))
 
   pub actions-reads : (actions : JsonList)
       → input_in (normal_of (Edit user (SetActions sort id actions))) ≡ Ok (Edit user (SetActions sort id actions))
@@ -155,7 +177,8 @@ module _ (user : List ℕ) (sort : Kind) (id : List ℕ) (local : is_user_id use
   actions-reads actions =
       let fields = edit_fields user (SetActions sort id actions) in
       let is = list-read (codes "actions") fields (Some actions) refl in
-      reads-form fields RuleActions (codes "rule_actions") (set_actions_form (object_of fields)) (Edit user (SetActions sort id actions)) refl refl refl
+      reads-form fields RuleActions (codes "rule_actions") (set_actions_form (object_of fields))
+      (Edit user (SetActions sort id actions)) refl refl refl
       (right-both (rule_fields (object_of fields)) (actions_field (object_of fields) ∷ [])
       (rule-right fields user sort id refl refl refl local fits)
       (right-cons Actions _ [] (ap is_some (list_at-read (codes "actions") fields actions refl)) refl))
@@ -163,7 +186,8 @@ module _ (user : List ℕ) (sort : Kind) (id : List ℕ) (local : is_user_id use
       (SetActions (kind-is fields user sort id refl refl refl i) (id-is fields user sort id refl refl refl i)
       (unwrap_or (is i) (record { items = [] }))))
 
-  pub put-reads : (pattern : Option (List ℕ)) (conditions : Option JsonList) (actions : JsonList) (before after : Option (List ℕ))
+  pub put-reads : (pattern : Option (List ℕ)) (conditions : Option JsonList) (actions : JsonList)
+      (before after : Option (List ℕ))
       → input_in (normal_of (Edit user (Put sort id pattern conditions actions before after)))
       ≡ Ok (Edit user (Put sort id pattern conditions actions before after))
   unfolding input_word_named
@@ -171,7 +195,8 @@ module _ (user : List ℕ) (sort : Kind) (id : List ℕ) (local : is_user_id use
       let edit = Put sort id pattern conditions actions before after in
       let fields = edit_fields user edit in
       let has_pattern : look (codes "pattern") fields ≡ option_map Text pattern = or_none (option_map Text pattern) in
-      let has_conditions : look (codes "conditions") fields ≡ option_map ListOf conditions = or_none (option_map ListOf conditions) in
+      let has_conditions : look (codes "conditions") fields ≡ option_map ListOf conditions =
+      or_none (option_map ListOf conditions) in
       let has_before : look (codes "before") fields ≡ option_map Text before = or_none (option_map Text before) in
       let has_after : look (codes "after") fields ≡ option_map Text after = or_none (option_map Text after) in
       let acts = list-read (codes "actions") fields (Some actions) refl in
@@ -189,7 +214,8 @@ module _ (user : List ℕ) (sort : Kind) (id : List ℕ) (local : is_user_id use
       (and_from _ _ (text-or_none (codes "before") fields before has_before)
       (and_from _ _ (text-or_none (codes "after") fields after has_after) refl)))))))
       (λ i. Edit (user-is fields user sort id refl refl refl i)
-      (Put (kind-is fields user sort id refl refl refl i) (id-is fields user sort id refl refl refl i) (seeks i) (asks i)
+      (Put (kind-is fields user sort id refl refl refl i) (id-is fields user sort id refl refl refl i)
+      (seeks i) (asks i)
       (unwrap_or (acts i) (record { items = [] })) (first i) (last i)))
 
 -- ---- receipts
@@ -211,7 +237,8 @@ told found = option_and_then thread_told found
 abbrev tells : Option Json → Bool
 tells found = option_map_or (λ value. is_some (thread_told value)) found true
 
-thread-named : (text : List ℕ) (thread : ThreadKey) → thread_named text ≡ Some thread → thread_told (Text text) ≡ Some thread
+thread-named : (text : List ℕ) (thread : ThreadKey) → thread_named text ≡ Some thread
+    → thread_told (Text text) ≡ Some thread
 thread-named text thread is = ap (option_and_then thread_named) (text_of-Text text) ∙ is
 
 -- a root that is an event id isn't the word for the main thread
@@ -249,11 +276,15 @@ receipt-reads user room event private thread local in_room of_event names =
     let has_thread : member (codes "thread_id") (object_of fields) ≡ option_map Text (option_map thread_text thread) =
     member-given (codes "thread_id") fields ∙ or_none (option_map Text (option_map thread_text thread)) in
     let tells_thread = thread-told thread names in
-    let user_is : user_in (object_of fields) ≡ user = ap (λ o. unwrap_or o []) (text-read (codes "user") fields (Some user) refl) in
-    let room_is : room_id_in (object_of fields) ≡ room = ap (λ o. unwrap_or o []) (text-read (codes "room_id") fields (Some room) refl) in
-    let event_is : event_id_in (object_of fields) ≡ event = ap (λ o. unwrap_or o []) (text-read (codes "event_id") fields (Some event) refl) in
+    let user_is : user_in (object_of fields) ≡ user =
+    ap (λ o. unwrap_or o []) (text-read (codes "user") fields (Some user) refl) in
+    let room_is : room_id_in (object_of fields) ≡ room =
+    ap (λ o. unwrap_or o []) (text-read (codes "room_id") fields (Some room) refl) in
+    let event_is : event_id_in (object_of fields) ≡ event =
+    ap (λ o. unwrap_or o []) (text-read (codes "event_id") fields (Some event) refl) in
     let privacy_is : privacy_in (object_of fields) ≡ Some private =
-    ap (option_and_then privacy_named) (text-read (codes "type") fields (Some (privacy_text private)) refl) ∙ privacy-named private in
+    ap (option_and_then privacy_named) (text-read (codes "type") fields (Some (privacy_text private)) refl)
+    ∙ privacy-named private in
     let thread_is : given_thread (object_of fields) ≡ thread = ap told has_thread ∙ tells_thread.0 in
     reads-form fields ReceiptWord (codes "receipt") (receipt_form (object_of fields)) input refl refl refl
     (right-all (receipt_form (object_of fields)).fields

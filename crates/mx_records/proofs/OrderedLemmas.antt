@@ -15,7 +15,8 @@ use Rattle.mx_records.specs.KeptRows.{AreOrdered, IsKept, starts_at, thread_rows
 use Rattle.mx_records.specs.Snapshot.{RoomRows, ThreadRows, room_rows, rows_at, rows_by_thread, unread_rows}
 use Rattle.mx_records.proofs.KeptLemmas.{room_rows-only, rows_at-unread, unread_rows-kept, unread_rows-only}
 use Rattle.mx_records.proofs.ShownLemmas.{AreLists, map-threads}
-use Rattle.mx_records.proofs.ThreadLemmas.{all-members, distinct-filter, has-threads_of, threads_of-in_order, threads_of-once}
+use Rattle.mx_records.proofs.ThreadLemmas.{all-members, distinct-filter, has-threads_of, threads_of-in_order}
+use Rattle.mx_records.proofs.ThreadLemmas.{threads_of-once}
 
 -- ---- lists by thread are ordered
 

@@ -1,12 +1,16 @@
 -- Where the ids of users rise, halving finds the entry that a walk finds; and what entries stand for.
-use Rattle.std.proofs.Common.{◌≡◌, ℕ, zero, suc, ◌+◌, ◌<◌, ◌≤◌, Bool, true, false, cond, not, T, List, [], ◌∷◌, ◌++◌, map, length, get_or, slice_get, slice_set, Option, None, Some, option_map, Result, Ok, Err, MatchResult, Ordering, Less, Equal, Greater, is_eq, nat_cmp, bytes_eq, OnOk, OnErr, ◌⊎◌, refl, sym, ap, subst, ◌∙◌, arith, add-one, inl, inr}
+use Rattle.std.proofs.Common.{◌≡◌, ℕ, zero, suc, ◌+◌, ◌<◌, ◌≤◌, Bool, true, false, cond, not, T, List, [], ◌∷◌, ◌++◌}
+use Rattle.std.proofs.Common.{map, length, get_or, slice_get, slice_set, Option, None, Some, option_map, Result, Ok}
+use Rattle.std.proofs.Common.{Err, MatchResult, Ordering, Less, Equal, Greater, is_eq, nat_cmp, bytes_eq, OnOk, OnErr}
+use Rattle.std.proofs.Common.{◌⊎◌, refl, sym, ap, subst, ◌∙◌, arith, add-one, inl, inr}
 use Rattle.std.proofs.lemmas.Bool.{and_parts, cases_lt}
 use Rattle.std.proofs.lemmas.Cmp.{nat_list_cmp_total}
 use Rattle.std.proofs.lemmas.List.Sorted.{searchable_from_sorted}
 use Rattle.std.proofs.lemmas.Option.{slice_get-map}
 use Rattle.std.specs.Cmp.Lexicographic.{slice_cmp}
 use Rattle.std.specs.FinMap as finite
-use Rattle.std.specs.FinMap.{find, from_sorted, get, is_sorted, put, entries-insert, entries-from_sorted, get-empty, get-from_sorted, nat_cmp-IsAntisymmetric, same_entries_map, slice_cmp-IsAntisymmetric}
+use Rattle.std.specs.FinMap.{find, from_sorted, get, is_sorted, put, entries-insert, entries-from_sorted, get-empty}
+use Rattle.std.specs.FinMap.{get-from_sorted, nat_cmp-IsAntisymmetric, same_entries_map, slice_cmp-IsAntisymmetric}
 use Rattle.std.specs.FinMap.Entries.{below_all, find-where_key, is_sorted-put, is_sorted-where_key}
 use Rattle.std.specs.List.{insert, remove}
 use Rattle.std.specs.List.Sorted.{IsBinarySearchResult, IsSearchInRange, IsSortedBy}
@@ -14,7 +18,8 @@ use Rattle.std.specs.Ordering.{eq_by_cmp, is_lt, ordering_reverse}
 use Rattle.mx_room.specs.Texts.{Texts}
 use Rattle.mx_room.proofs.TextsLemmas.{bytes_eq-flip, get-set_at, same_texts, ties}
 use Rattle.mx_records.specs.declared.pending.Tweaks.{Tweaks}
-use Rattle.mx_records.specs.Pending.{Entries, IsEntryAt, IsGapAt, are_rising, tweaks_in, users_in, with_user, without_user}
+use Rattle.mx_records.specs.Pending.{Entries, IsEntryAt, IsGapAt, are_rising, tweaks_in, users_in, with_user}
+use Rattle.mx_records.specs.Pending.{without_user}
 
 abbrev order : List ℕ → List ℕ → Ordering
 order = slice_cmp nat_cmp
@@ -61,7 +66,8 @@ adjacent (entry ∷ entries) (suc k) d rising within =
 
 in_order : (entries : Entries) → are_rising entries ≡ true → IsSortedBy (λ a b. is_lt (order a.0 b.0)) entries
 in_order entries rising = λ k d low within.
-    rw add-one (ap is_lt (flipped (get_or entries k d).0 (get_or entries (suc k) d).0 Less (adjacent entries k d rising (omega arith))))
+    rw add-one (ap is_lt
+    (flipped (get_or entries k d).0 (get_or entries (suc k) d).0 Less (adjacent entries k d rising (omega arith))))
 
 -- ---- the entry that is found
 
@@ -110,7 +116,8 @@ taken-out user (entry ∷ entries) zero d rising within equal =
     let below = (and_parts (below_all order entry.0 entries) _ rising).0 in
     rw (flipped entry.0 user Equal equal)
     (none-out user entries (λ k e inside.
-    ap is_eq (ap (λ id. order id (get_or entries k e).0) (sym (same entry.0 user equal)) ∙ below-each entry.0 entries k e below inside)))
+    ap is_eq (ap (λ id. order id (get_or entries k e).0) (sym (same entry.0 user equal))
+    ∙ below-each entry.0 entries k e below inside)))
 taken-out user (entry ∷ entries) (suc at) d rising within equal =
     rw (above-first user entry entries at d rising (omega arith) equal)
     (ap (λ rest. entry ∷ rest)
@@ -150,7 +157,8 @@ place_from_search user entries d (Ok at) rising within equal = record {
   taken_out = taken-out user entries at d rising within (equal d);
 }
 place_from_search user entries d (Err at) rising within parts =
-    let sides = parts (searchable_from_sorted nat_list_cmp_total (λ entry. entry.0) entries user (in_order entries rising)) in
+    let sides =
+    parts (searchable_from_sorted nat_list_cmp_total (λ entry. entry.0) entries user (in_order entries rising)) in
     let apart : (k : ℕ) (e : List ℕ × Tweaks) → k < length entries → eq_by_cmp order user (get_or entries k e).0 ≡ false
     = λ k e inside. elim (cases_lt k at) [
       | inl before ↦ ap is_eq (flipped (get_or entries k e).0 user Less (sides.0 k e (omega arith) before))
@@ -201,7 +209,8 @@ pub users_in-with : (user : List ℕ) (tweaks : Tweaks) (entries : Entries) → 
 users_in-with user tweaks entries rising =
     same_entries_map (users_in (with_user user tweaks entries)) (finite.insert (users_in entries) user tweaks)
     (entries-users_in (with_user user tweaks entries) (rising-with user tweaks entries rising)
-    ∙ sym (entries-insert nat_list_cmp_total (users_in entries) user tweaks ∙ ap (with_user user tweaks) (entries-users_in entries rising)))
+    ∙ sym (entries-insert nat_list_cmp_total (users_in entries) user tweaks
+    ∙ ap (with_user user tweaks) (entries-users_in entries rising)))
 
 turned : (b : Bool) (o : Option Tweaks) → cond (not b) o None ≡ cond b None o
 turned true o = refl
@@ -213,7 +222,8 @@ users_in-without user entries rising =
     same_texts (users_in (without_user user entries)) (finite.remove (users_in entries) user)
     (λ q.
     get-users_in (without_user user entries) q (rising-without user entries rising)
-    ∙ find-where_key order (λ id. not (eq_by_cmp order user id)) q (λ x tied. ap (λ id. not (eq_by_cmp order user id)) (sym (same q x tied))) entries
+    ∙ find-where_key order (λ id. not (eq_by_cmp order user id)) q
+    (λ x tied. ap (λ id. not (eq_by_cmp order user id)) (sym (same q x tied))) entries
     ∙ turned (eq_by_cmp order user q) (tweaks_in q entries)
     ∙ ap (λ b. cond b None (tweaks_in q entries)) (ties user q ∙ bytes_eq-flip user q)
     ∙ ap (cond (bytes_eq q user) None) (sym (get-users_in entries q rising))

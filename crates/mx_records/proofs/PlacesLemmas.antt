@@ -1,5 +1,6 @@
 -- The place of an id is that of the first event with it; and by its place a receipt is refused.
-use Rattle.std.proofs.Common.{◌≡◌, ℕ, Bool, true, false, cond, not, ◌||◌, List, [], ◌∷◌, ◌++◌, find, Option, Some, None, is_some, option_map, refl, ap, sym, ◌∙◌}
+use Rattle.std.proofs.Common.{◌≡◌, ℕ, Bool, true, false, cond, not, ◌||◌, List, [], ◌∷◌, ◌++◌, find, Option, Some, None}
+use Rattle.std.proofs.Common.{is_some, option_map, refl, ap, sym, ◌∙◌}
 use Rattle.std.specs.Cmp.Lexicographic.{slice_cmp}
 use Rattle.std.specs.FinMap.{insert, get-empty}
 use Rattle.std.specs.Option.{option_map_or, option_or}
@@ -19,10 +20,13 @@ use Rattle.mx_records.specs.declared.input.Input.TheVariants.{Event, Edit, Recei
 use Rattle.mx_records.specs.declared.refusal.Refusal.{Refusal}
 use Rattle.mx_records.specs.declared.refusal.Refusal.TheVariants.{NotInThread, UnknownEvent}
 use Rattle.mx_records.specs.Counting.{is_in, thread_in}
-use Rattle.mx_records.specs.History.{Happening, History, additions_after, events, position_after, with_input, with_outcome}
+use Rattle.mx_records.specs.History.{Happening, History, additions_after, events, position_after, with_input}
+use Rattle.mx_records.specs.History.{with_outcome}
 use Rattle.mx_records.specs.Places.{is_event_with, place_among, places_of, position_of, with_place}
 use Rattle.mx_records.specs.Refusing.{is_read_in, refusal_of_read}
-use Rattle.mx_records.proofs.HistoryLemmas.{IsNoEvent, by_end, edit-no_event, events-other, events-outcome, events-push, next_event, places_of-other, places_of-outcome, places_of-push, receipt-no_event, pusher-no_event}
+use Rattle.mx_records.proofs.HistoryLemmas.{IsNoEvent, by_end, edit-no_event, events-other, events-outcome, events-push}
+use Rattle.mx_records.proofs.HistoryLemmas.{next_event, places_of-other, places_of-outcome, places_of-push}
+use Rattle.mx_records.proofs.HistoryLemmas.{receipt-no_event, pusher-no_event}
 
 -- an id that has no place gets that of the event
 pub with_place-new : (places : Places) (happening : Happening)

@@ -1,5 +1,7 @@
 -- What a valid value is read as is normal: its object is valid, and is read as it again.
-use Rattle.std.proofs.Common.{◌≡◌, ◌<◌, ◌^◌, ◌==◌, ℕ, ℤ, pos, negsuc, Bool, true, false, cond, ◌&&◌, ◌||◌, List, [], ◌∷◌, ◌++◌, map, codes, Option, Some, None, is_some, option_map, option_and_then, unwrap_or, Result, Ok, Err, IfOk, refl, ap, sym, subst, ◌∙◌, arith}
+use Rattle.std.proofs.Common.{◌≡◌, ◌<◌, ◌^◌, ◌==◌, ℕ, ℤ, pos, negsuc, Bool, true, false, cond, ◌&&◌, ◌||◌, List, []}
+use Rattle.std.proofs.Common.{◌∷◌, ◌++◌, map, codes, Option, Some, None, is_some, option_map, option_and_then}
+use Rattle.std.proofs.Common.{unwrap_or, Result, Ok, Err, IfOk, refl, ap, sym, subst, ◌∙◌, arith}
 use Rattle.std.proofs.lemmas.Bool.{and_from, and_parts}
 use Rattle.std.specs.List.{list_all}
 use Rattle.std.specs.Option.{option_map_or, option_or}
@@ -10,7 +12,8 @@ use Rattle.mx_json.specs.declared.value.JsonList.{JsonList}
 use Rattle.mx_json.specs.declared.value.JsonObject.{JsonObject}
 use Rattle.mx_json.specs.Gives.{Gives}
 use Rattle.mx_json.specs.Ids.{is_event_id, is_user_id}
-use Rattle.mx_json.specs.Json.{are_rising, is_object, is_valid, member, text_at, text_of, text_or_empty, top_pairs, truth_at, whole_at}
+use Rattle.mx_json.specs.Json.{are_rising, is_object, is_valid, member, text_at, text_of, text_or_empty, top_pairs}
+use Rattle.mx_json.specs.Json.{truth_at, whole_at}
 use Rattle.mx_json.proofs.ObjectLemmas.{is_fit-Null, is_fit-Text, is_fit-Truth, is_utf8-ascii}
 use Rattle.mx_json.proofs.RisingLemmas.{keys_of}
 use Rattle.mx_rows.specs.declared.thread_key.ThreadKey.{ThreadKey}
@@ -26,12 +29,20 @@ use Rattle.mx_records.specs.declared.input_error.InputError.{InputError}
 use Rattle.mx_records.specs.declared.input_error.InputError.TheVariants.{BadField, OutOfMemory as WantOfMemory}
 use Rattle.mx_records.specs.declared.input_word.InputWord.{InputWord}
 use Rattle.mx_records.specs.declared.input_word.InputWord.TheVariants as word
-use Rattle.mx_records.specs.Forms.{Form, actions_field, edited_kind_in, event_form, event_in, given_list, given_thread, input_form_of, input_in, is_rule_id, kind_in, name_in_event, privacy_in, event_id_in, room_id_in, put_form, delete_form, enable_form, set_actions_form, read_fields, receipt_form, rule_fields, rule_id_in, thread_named, thread_told, user_in, value_of_form}
+use Rattle.mx_records.specs.Forms.{Form, actions_field, edited_kind_in, event_form, event_in, given_list, given_thread}
+use Rattle.mx_records.specs.Forms.{input_form_of, input_in, is_rule_id, kind_in, name_in_event, privacy_in, event_id_in}
+use Rattle.mx_records.specs.Forms.{room_id_in, put_form, delete_form, enable_form, set_actions_form, read_fields}
+use Rattle.mx_records.specs.Forms.{receipt_form, rule_fields, rule_id_in, thread_named, thread_told, user_in}
+use Rattle.mx_records.specs.Forms.{value_of_form}
 use Rattle.mx_records.specs.InputWords.{input_word_in, input_word_named}
-use Rattle.mx_records.specs.Normal.{Field, edit_fields, fields_given, given_pairs, kind_text, normal_of, object_of, privacy_text, text_field, text_if_given, thread_text, IsNormal}
+use Rattle.mx_records.specs.Normal.{Field, edit_fields, fields_given, given_pairs, kind_text, normal_of, object_of}
+use Rattle.mx_records.specs.Normal.{privacy_text, text_field, text_if_given, thread_text, IsNormal}
 use Rattle.mx_records.proofs.FormLemmas.{AreRight, found-right}
-use Rattle.mx_records.proofs.GivenLemmas.{fit-member, fits, fits-list, fits-list_if, fits-text, fits-text_if, fits-value, text-member, valid-object}
-use Rattle.mx_records.proofs.NormalLemmas.{actions-reads, delete-reads, enable-reads, event-reads, event_in-normal, is_thread, each-right, put-reads, put_rest, receipt-reads, right-left, right-parts}
+use Rattle.mx_records.proofs.GivenLemmas.{fit-member, fits, fits-list, fits-list_if, fits-text, fits-text_if}
+use Rattle.mx_records.proofs.GivenLemmas.{fits-value, text-member, valid-object}
+use Rattle.mx_records.proofs.NormalLemmas.{actions-reads, delete-reads, enable-reads, event-reads, event_in-normal}
+use Rattle.mx_records.proofs.NormalLemmas.{is_thread, each-right, put-reads, put_rest, receipt-reads, right-left}
+use Rattle.mx_records.proofs.NormalLemmas.{right-parts}
 use Rattle.mx_records.proofs.PusherLemmas.{pusher-normal}
 
 -- ---- texts that are words
@@ -51,7 +62,8 @@ fits-cmd spelled utf8 = is_fit-Text (codes "cmd") spelled (is_utf8-ascii (codes 
 
 -- ---- events
 
-event-normal : (json : Json) → is_valid json ≡ true → AreRight (event_form json).fields → IsNormal (event_form json).value
+event-normal : (json : Json) → is_valid json ≡ true → AreRight (event_form json).fields
+    → IsNormal (event_form json).value
 event-normal json valid right = record {
   valid = valid-object (fields_given (Event (event_in json))) refl
       (and_from _ _ (fits-cmd (codes "event") (is_utf8-ascii (codes "event") refl))
@@ -84,7 +96,8 @@ put-rising user sort id actions (Some x0) (Some x1) (Some x2) None = refl
 put-rising user sort id actions (Some x0) (Some x1) (Some x2) (Some x3) = refl
 
 module _ (json : Json) (valid : is_valid json ≡ true) where
-  fits-rule : list_all fits (text_field (codes "rule_id") (rule_id_in json) ∷ text_field (codes "user") (user_in json) ∷ []) ≡ true
+  fits-rule : list_all fits
+      (text_field (codes "rule_id") (rule_id_in json) ∷ text_field (codes "user") (user_in json) ∷ []) ≡ true
   fits-rule =
       and_from _ _ (fits-text (codes "rule_id") json (is_utf8-ascii (codes "rule_id") refl) valid)
       (and_from _ _ (fits-text (codes "user") json (is_utf8-ascii (codes "user") refl) valid) refl)
@@ -106,7 +119,8 @@ module _ (json : Json) (valid : is_valid json ≡ true) where
 
   enable-normal : AreRight (enable_form json).fields → IsNormal (enable_form json).value
   enable-normal right =
-      let rule = rule-is (right-left (rule_fields json) ((Enabled, is_some (truth_at (codes "enabled") json)) ∷ []) right).0 in
+      let rule =
+      rule-is (right-left (rule_fields json) ((Enabled, is_some (truth_at (codes "enabled") json)) ∷ []) right).0 in
       let enabled = unwrap_or (truth_at (codes "enabled") json) false in
       record {
         valid = valid-object (edit_fields (user_in json) (Enable (edited_kind_in json) (rule_id_in json) enabled)) refl
@@ -116,9 +130,13 @@ module _ (json : Json) (valid : is_valid json ≡ true) where
         reads = enable-reads (user_in json) (edited_kind_in json) (rule_id_in json) rule.0 rule.1 enabled;
       }
 
-  fits-actions : AreRight (actions_field json ∷ []) → fits (codes "actions", Some (ListOf (unwrap_or (given_list (codes "actions") json) (record { items = [] })))) ≡ true
+  fits-actions : AreRight (actions_field json ∷ []) → fits (
+    codes "actions",
+    Some (ListOf (unwrap_or (given_list (codes "actions") json) (record { items = [] }))),
+  ) ≡ true
   fits-actions right =
-      fits-list (codes "actions") json (is_utf8-ascii (codes "actions") refl) valid (right-parts (actions_field json) [] right).0
+      fits-list (codes "actions") json (is_utf8-ascii (codes "actions") refl) valid
+      (right-parts (actions_field json) [] right).0
 
   actions-normal : AreRight (set_actions_form json).fields → IsNormal (set_actions_form json).value
   actions-normal right =
@@ -126,7 +144,8 @@ module _ (json : Json) (valid : is_valid json ≡ true) where
       let rule = rule-is parts.0 in
       let actions = unwrap_or (given_list (codes "actions") json) (record { items = [] }) in
       record {
-        valid = valid-object (edit_fields (user_in json) (SetActions (edited_kind_in json) (rule_id_in json) actions)) refl
+        valid =
+            valid-object (edit_fields (user_in json) (SetActions (edited_kind_in json) (rule_id_in json) actions)) refl
             (and_from _ _ (fits-actions parts.1)
             (and_from _ _ (fits-cmd (codes "rule_actions") (is_utf8-ascii (codes "rule_actions") refl))
             (and_from _ _ (fits-kind (edited_kind_in json)) fits-rule)));
@@ -144,7 +163,8 @@ module _ (json : Json) (valid : is_valid json ≡ true) where
       let before = text_at (codes "before") json in
       let after = text_at (codes "after") json in
       record {
-        valid = valid-object (edit_fields (user_in json) (Put (edited_kind_in json) (rule_id_in json) pattern conditions actions before after))
+        valid = valid-object (edit_fields (user_in json)
+            (Put (edited_kind_in json) (rule_id_in json) pattern conditions actions before after))
             (put-rising (user_in json) (edited_kind_in json) (rule_id_in json) actions after before conditions pattern)
             (and_from _ _ (fits-list (codes "actions") json (is_utf8-ascii (codes "actions") refl) valid does)
             (and_from _ _ (fits-text_if (codes "after") json (is_utf8-ascii (codes "after") refl) valid)
@@ -152,8 +172,10 @@ module _ (json : Json) (valid : is_valid json ≡ true) where
             (and_from _ _ (fits-cmd (codes "rule_put") (is_utf8-ascii (codes "rule_put") refl))
             (and_from _ _ (fits-list_if (codes "conditions") json (is_utf8-ascii (codes "conditions") refl) valid)
             (and_from _ _ (fits-kind (edited_kind_in json))
-            (and_from _ _ (fits-text_if (codes "pattern") json (is_utf8-ascii (codes "pattern") refl) valid) fits-rule)))))));
-        reads = put-reads (user_in json) (edited_kind_in json) (rule_id_in json) rule.0 rule.1 pattern conditions actions before after;
+            (and_from _ _
+            (fits-text_if (codes "pattern") json (is_utf8-ascii (codes "pattern") refl) valid) fits-rule)))))));
+        reads = put-reads (user_in json) (edited_kind_in json)
+            (rule_id_in json) rule.0 rule.1 pattern conditions actions before after;
       }
 
 -- ---- receipts
@@ -193,7 +215,8 @@ unfolding thread_named
 fits-named json text valid is = by (bytes_eq text (codes "main")) (is_event_id text)
   where
     by : (main root : Bool) → fits_thread (cond main (Some Main) (cond root (Some (Root text)) None)) ≡ true
-    by true root = is_fit-Text (codes "thread_id") (codes "main") (is_utf8-ascii (codes "thread_id") refl) (is_utf8-ascii (codes "main") refl)
+    by true root = is_fit-Text (codes "thread_id") (codes "main") (is_utf8-ascii (codes "thread_id") refl)
+        (is_utf8-ascii (codes "main") refl)
     by false true =
         fit-member (codes "thread_id") json (Text text) (is_utf8-ascii (codes "thread_id") refl) valid
         (text-member (codes "thread_id") json text is)
@@ -216,7 +239,8 @@ receipt-rising : (user room event : List ℕ) (private : Bool) (thread : Option 
 receipt-rising user room event private None = refl
 receipt-rising user room event private (Some thread) = refl
 
-receipt-normal : (json : Json) → is_valid json ≡ true → AreRight (receipt_form json).fields → IsNormal (receipt_form json).value
+receipt-normal : (json : Json) → is_valid json ≡ true → AreRight (receipt_form json).fields
+    → IsNormal (receipt_form json).value
 receipt-normal json valid right =
     let each = each-right (receipt_form json).fields right in
     let user = user_in json in
@@ -225,12 +249,14 @@ receipt-normal json valid right =
     let private = unwrap_or (privacy_in json) false in
     let thread = given_thread json in
     record {
-      valid = valid-object (fields_given (Receipt user room event private thread)) (receipt-rising user room event private thread)
+      valid = valid-object (fields_given (Receipt user room event private thread))
+          (receipt-rising user room event private thread)
           (and_from _ _ (fits-cmd (codes "receipt") (is_utf8-ascii (codes "receipt") refl))
           (and_from _ _ (fits-text (codes "event_id") json (is_utf8-ascii (codes "event_id") refl) valid)
           (and_from _ _ (fits-text (codes "room_id") json (is_utf8-ascii (codes "room_id") refl) valid)
           (and_from _ _ (fits-thread json valid)
-          (and_from _ _ (is_fit-Text (codes "type") (privacy_text private) (is_utf8-ascii (codes "type") refl) (privacy-utf8 private))
+          (and_from _ _
+          (is_fit-Text (codes "type") (privacy_text private) (is_utf8-ascii (codes "type") refl) (privacy-utf8 private))
           (and_from _ _ (fits-text (codes "user") json (is_utf8-ascii (codes "user") refl) valid) refl))))));
       reads = receipt-reads user room event private thread each.0 each.1.0 each.1.1.0 (is_thread-given json);
     }
@@ -241,10 +267,12 @@ form-normal : (word : InputWord) (json : Json) (form : Form Input) → is_valid 
     → input_form_of word json ≡ Some form → AreRight form.fields → IsNormal form.value
 form-normal of json form valid is right = by of is
   where
-    moved : (told : Form Input) → Some told ≡ Some form → (AreRight told.fields → IsNormal told.value) → IsNormal form.value
+    moved : (told : Form Input) → Some told ≡ Some form → (AreRight told.fields → IsNormal told.value)
+        → IsNormal form.value
     moved told is normal =
         let same : told ≡ form = cc in
-        subst (λ (form : Form Input). IsNormal form.value) same (normal (subst (λ (form : Form Input). AreRight form.fields) (sym same) right))
+        subst (λ (form : Form Input). IsNormal form.value) same
+        (normal (subst (λ (form : Form Input). AreRight form.fields) (sym same) right))
 
     by : (of : InputWord) → input_form_of of json ≡ Some form → IsNormal form.value
     by word.Event is = moved (event_form json) is (event-normal json valid)
@@ -269,11 +297,13 @@ read-normal json input valid is = by (input_word_in json) is
         let found = found-right form.fields form.value input is in
         subst IsNormal found.1 (form-normal of json form valid has found.0)
 
-    by_word : (of : InputWord) (form : Option (Form Input)) → input_form_of of json ≡ form → by_form form ≡ Ok input → IsNormal input
+    by_word : (of : InputWord) (form : Option (Form Input)) → input_form_of of json ≡ form → by_form form ≡ Ok input
+        → IsNormal input
     by_word of None has is = absurd cc
     by_word of (Some form) has is = with_form form of has is
 
-    by : (of : Option InputWord) → by_form (option_and_then (λ word. input_form_of word json) of) ≡ Ok input → IsNormal input
+    by : (of : Option InputWord) → by_form (option_and_then (λ word. input_form_of word json) of) ≡ Ok input
+        → IsNormal input
     by None is = absurd cc
     by (Some of) is = by_word of (input_form_of of json) refl is
 

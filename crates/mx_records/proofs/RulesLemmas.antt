@@ -1,5 +1,6 @@
 -- How each user's rules go on by one entry, and the rules of those who edited them.
-use Rattle.std.proofs.Common.{◌≡◌, ℕ, Bool, true, false, cond, ◌||◌, List, [], ◌∷◌, ◌++◌, Option, Some, None, ◌⊎◌, inl, inr, is_some, unwrap_or, refl, ap, sym, ◌∙◌}
+use Rattle.std.proofs.Common.{◌≡◌, ℕ, Bool, true, false, cond, ◌||◌, List, [], ◌∷◌, ◌++◌, Option, Some, None, ◌⊎◌, inl}
+use Rattle.std.proofs.Common.{inr, is_some, unwrap_or, refl, ap, sym, ◌∙◌}
 use Rattle.std.specs.FinMap.{get, insert}
 use Rattle.std.specs.List.{cons_option, filter_map, fold, list_any}
 use Rattle.std.specs.Str.{bytes_eq}
@@ -18,7 +19,8 @@ use Rattle.mx_records.specs.declared.entry.Outcome.{Outcome}
 use Rattle.mx_records.specs.declared.input.Input.{Input}
 use Rattle.mx_records.specs.declared.input.Input.TheVariants.{Event, Edit as EditInput, Receipt, Pusher}
 use Rattle.mx_records.specs.History.{History, inputs_in, with_input, with_outcome}
-use Rattle.mx_records.specs.Rules.{edit_by, edited_rules, editor_of, editors_of, edits_of, has_edited, is_edit_of, own_rules, rules_among, rules_of}
+use Rattle.mx_records.specs.Rules.{edit_by, edited_rules, editor_of, editors_of, edits_of, has_edited, is_edit_of}
+use Rattle.mx_records.specs.Rules.{own_rules, rules_among, rules_of}
 use Rattle.mx_records.proofs.HistoryLemmas.{inputs_in-outcome, inputs_in-push}
 
 -- ---- the rules after one more input

@@ -1,5 +1,6 @@
 -- What is known of a history, as a state keeps it: lists of rows by thread; and what questions are answered by them.
-use Rattle.std.proofs.Common.{◌≡◌, ℕ, ◌+◌, ◌≤◌, zero-le, nat_lt, nat_le, Bool, true, false, ◌&&◌, List, [], ◌∷◌, map, filter, length, refl, ap, sym, ◌∙◌, arith}
+use Rattle.std.proofs.Common.{◌≡◌, ℕ, ◌+◌, ◌≤◌, zero-le, nat_lt, nat_le, Bool, true, false, ◌&&◌, List, [], ◌∷◌, map}
+use Rattle.std.proofs.Common.{filter, length, refl, ap, sym, ◌∙◌, arith}
 use Rattle.std.specs.List.{IsDistinct, list_all, sum_by}
 use Rattle.std.proofs.Common.{length-append}
 use Rattle.std.proofs.lemmas.Bool.{and_parts, false≢true, leb-true, ltb-true}
@@ -14,11 +15,14 @@ use Rattle.mx_rows.specs.Threads.{has_thread, same_thread}
 use Rattle.mx_records.specs.declared.entry.Outcome.{Outcome}
 use Rattle.mx_records.specs.declared.input.Input.{Input}
 use Rattle.mx_records.specs.declared.input.Input.TheVariants.{Event, Edit, Receipt, Pusher}
-use Rattle.mx_records.specs.Counting.{counts_of, is_unread, room_counts_of, row_of, rows_of, threads_of, thread_in, unread, unread_in}
+use Rattle.mx_records.specs.Counting.{counts_of, is_unread, room_counts_of, row_of, rows_of, threads_of, thread_in}
+use Rattle.mx_records.specs.Counting.{unread, unread_in}
 use Rattle.mx_records.specs.History.{Happening, History, additions_after, events, inputs_of, with_input, with_outcome}
 use Rattle.mx_records.specs.KeptRows.{thread_rows}
 use Rattle.mx_records.specs.Snapshot.{RoomRows, Snapshot, ThreadRows, room_rows, rows_at, rows_by_thread, snapshot_of}
-use Rattle.mx_records.proofs.HistoryLemmas.{by_end, edit-no_event, events-other, events-outcome, events-push, inputs_of-outcome, inputs_of-push, next_event, receipt-no_event, pusher-no_event}
+use Rattle.mx_records.proofs.HistoryLemmas.{by_end, edit-no_event, events-other, events-outcome, events-push}
+use Rattle.mx_records.proofs.HistoryLemmas.{inputs_of-outcome, inputs_of-push, next_event, receipt-no_event}
+use Rattle.mx_records.proofs.HistoryLemmas.{pusher-no_event}
 use Rattle.mx_records.proofs.KeptLemmas.{room_rows-lists, room_rows-only, rows_at-unread, thread_rows-room}
 use Rattle.mx_records.proofs.ThreadLemmas.{distinct-filter, room_counts_of-threads}
 use Rattle.mx_records.proofs.UnreadLemmas.{same_thread-same}

@@ -1,5 +1,6 @@
 -- What a state that stands for a history knows after one more input.
-use Rattle.std.proofs.Common.{◌≡◌, ℕ, ◌+◌, Bool, true, false, cond, ◌&&◌, List, [], ◌++◌, Option, Some, None, option_and_then, unwrap_or, refl, ap, sym, ◌∙◌}
+use Rattle.std.proofs.Common.{◌≡◌, ℕ, ◌+◌, Bool, true, false, cond, ◌&&◌, List, [], ◌++◌, Option, Some, None}
+use Rattle.std.proofs.Common.{option_and_then, unwrap_or, refl, ap, sym, ◌∙◌}
 use Rattle.std.specs.FinMap.{insert}
 use Rattle.std.proofs.lemmas.List.{append-nil}
 use Rattle.std.specs.List.{IsDistinct}
@@ -31,11 +32,16 @@ use Rattle.mx_records.specs.Rooms.{events_of}
 use Rattle.mx_records.specs.Rules.{edited_rules, rules_of}
 use Rattle.mx_records.specs.KeptRows.{HaveRooms, thread_rows}
 use Rattle.mx_records.specs.Snapshot.{RoomRows, room_rows, rows_at, rows_by_thread, snapshot_of, unread_rows}
-use Rattle.mx_records.proofs.HistoryLemmas.{edit-no_event, events_of-other, events_of-outcome, events_of-push, inputs_of-outcome, inputs_of-push, next_event, places_of-other, places_of-outcome, places_of-push, receipt-no_event}
-use Rattle.mx_records.proofs.KeptLemmas.{room_rows-only, rows_at-unread, thread_rows-room, unread_rows-kept, unread_rows-only}
-use Rattle.mx_records.proofs.RulesLemmas.{edited_rules-edit, edited_rules-other, edited_rules-outcome, event-no_edit, receipt-no_edit}
+use Rattle.mx_records.proofs.HistoryLemmas.{edit-no_event, events_of-other, events_of-outcome, events_of-push}
+use Rattle.mx_records.proofs.HistoryLemmas.{inputs_of-outcome, inputs_of-push, next_event, places_of-other}
+use Rattle.mx_records.proofs.HistoryLemmas.{places_of-outcome, places_of-push, receipt-no_event}
+use Rattle.mx_records.proofs.KeptLemmas.{room_rows-only, rows_at-unread, thread_rows-room, unread_rows-kept}
+use Rattle.mx_records.proofs.KeptLemmas.{unread_rows-only}
+use Rattle.mx_records.proofs.RulesLemmas.{edited_rules-edit, edited_rules-other, edited_rules-outcome, event-no_edit}
+use Rattle.mx_records.proofs.RulesLemmas.{receipt-no_edit}
 use Rattle.mx_records.proofs.ThreadLemmas.{has-threads_of, threads_of-in_order, threads_of-once}
-use Rattle.mx_records.proofs.UnreadLemmas.{moves_in, next_row, reads, rows_of-edit, rows_of-event, rows_of-outcome, rows_of-receipt}
+use Rattle.mx_records.proofs.UnreadLemmas.{moves_in, next_row, reads, rows_of-edit, rows_of-event, rows_of-outcome}
+use Rattle.mx_records.proofs.UnreadLemmas.{rows_of-receipt}
 
 -- ---- rows of one user in one room
 

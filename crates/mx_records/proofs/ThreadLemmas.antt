@@ -1,5 +1,6 @@
 -- The threads of a room that have rows: each once, in the order of the first row of each, and no other list is.
-use Rattle.std.proofs.Common.{◌≡◌, ℕ, ◌+◌, ◌<◌, ◌≤◌, nat_lt, nat_le, Bool, true, false, cond, not, ◌||◌, List, [], ◌∷◌, map, filter, length, refl, ap, sym, subst, ◌∙◌, arith}
+use Rattle.std.proofs.Common.{◌≡◌, ℕ, ◌+◌, ◌<◌, ◌≤◌, nat_lt, nat_le, Bool, true, false, cond, not, ◌||◌, List, [], ◌∷◌}
+use Rattle.std.proofs.Common.{map, filter, length, refl, ap, sym, subst, ◌∙◌, arith}
 use Rattle.std.specs.List.{AllByRecursion, IsDistinct, list_all, sum_by}
 use Rattle.std.proofs.lemmas.Bool.{and_parts, and_from, cond_both, false≢true, le-leb, leb-true, ltb-true}
 use Rattle.std.proofs.lemmas.List.Folds.{list_all-map}
@@ -11,7 +12,8 @@ use Rattle.mx_rows.specs.declared.thread_key.ThreadKey.{ThreadKey}
 use Rattle.mx_rows.specs.Rows.{are_in_order, has_rows, never_falls, start_of}
 use Rattle.mx_rows.specs.Threads.{has_thread, same_thread, same_thread-equiv}
 use Rattle.mx_rows.proofs.RowLemmas.{list_all-filter}
-use Rattle.mx_records.specs.Counting.{counts_of, each_once, room_counts_of, row_of, rows_of, thread_in, threads_of, unread}
+use Rattle.mx_records.specs.Counting.{counts_of, each_once, room_counts_of, row_of, rows_of, thread_in, threads_of}
+use Rattle.mx_records.specs.Counting.{unread}
 use Rattle.mx_records.specs.History.{Happening, History}
 use Rattle.mx_records.proofs.CutLemmas.{Rise, position}
 use Rattle.mx_records.proofs.UnreadLemmas.{same_thread-same, unread-rise}

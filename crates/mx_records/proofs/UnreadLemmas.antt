@@ -1,8 +1,10 @@
 -- The rows of a thread, after one more input.
-use Rattle.std.proofs.Common.{◌≡◌, ℕ, ◌+◌, ◌≤◌, max, nat_lt, nat_le, Bool, true, false, cond, ◌&&◌, List, [], ◌∷◌, ◌++◌, map, filter, All, Option, unwrap_or, refl, ap, sym, ◌∙◌, arith}
+use Rattle.std.proofs.Common.{◌≡◌, ℕ, ◌+◌, ◌≤◌, max, nat_lt, nat_le, Bool, true, false, cond, ◌&&◌, List, [], ◌∷◌, ◌++◌}
+use Rattle.std.proofs.Common.{map, filter, All, Option, unwrap_or, refl, ap, sym, ◌∙◌, arith}
 use Rattle.std.specs.List.{list_all}
 use Rattle.std.specs.Str.{bytes_eq}
-use Rattle.std.proofs.lemmas.Bool.{and_parts, and_from, cond_both, false≢true, le-leb, le-ltb, leb-true, lt-ltb, ltb-false, ltb-true}
+use Rattle.std.proofs.lemmas.Bool.{and_parts, and_from, cond_both, false≢true, le-leb, le-ltb, leb-true, lt-ltb}
+use Rattle.std.proofs.lemmas.Bool.{ltb-false, ltb-true}
 use Rattle.std.proofs.lemmas.List.{map-append}
 use Rattle.std.proofs.lemmas.List.Elements.{filter-append}
 use Rattle.std.proofs.lemmas.List.Folds.{list_all-map}
@@ -26,8 +28,10 @@ use Rattle.mx_records.specs.Cuts.{cut_by, cut_of, moves, reaches}
 use Rattle.mx_records.specs.History.{Happening, History, events, inputs_of, position_after, with_input, with_outcome}
 use Rattle.mx_records.specs.Judging.{notifies}
 use Rattle.mx_records.specs.Places.{position_of}
-use Rattle.mx_records.proofs.CutLemmas.{Rise, StandUpto, cut_of-le, cut_of-outcome, cut_of-push, events-rise, events-upto, position, rise-filter}
-use Rattle.mx_records.proofs.HistoryLemmas.{IsNoEvent, edit-no_event, events-other, events-outcome, events-push, next_event, receipt-no_event}
+use Rattle.mx_records.proofs.CutLemmas.{Rise, StandUpto, cut_of-le, cut_of-outcome, cut_of-push, events-rise}
+use Rattle.mx_records.proofs.CutLemmas.{events-upto, position, rise-filter}
+use Rattle.mx_records.proofs.HistoryLemmas.{IsNoEvent, edit-no_event, events-other, events-outcome, events-push}
+use Rattle.mx_records.proofs.HistoryLemmas.{next_event, receipt-no_event}
 
 -- keys of the same thread are equal
 pub same_thread-same : (s t : ThreadKey) → same_thread s t ≡ true → s ≡ t

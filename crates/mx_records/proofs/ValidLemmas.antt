@@ -1,6 +1,7 @@
 -- How the living pushers and the validity of a history go on by one entry; that a valid history has
 -- inputs alone, since no pusher is built yet.
-use Rattle.std.proofs.Common.{◌≡◌, ℕ, ◌+◌, List, [], ◌∷◌, ◌++◌, find, length, map, Option, Some, None, refl, ap, sym, subst, ◌∙◌}
+use Rattle.std.proofs.Common.{◌≡◌, ℕ, ◌+◌, List, [], ◌∷◌, ◌++◌, find, length, map, Option, Some, None, refl, ap, sym}
+use Rattle.std.proofs.Common.{subst, ◌∙◌}
 use Rattle.std.specs.List.{All, filter_map, fold}
 use Rattle.std.proofs.lemmas.List.{length-map, map-append}
 use Rattle.std.proofs.lemmas.List.Elements.{All-nil, All-pop, All-push}
@@ -12,9 +13,11 @@ use Rattle.mx_records.specs.declared.entry.Outcome.TheVariants.{Pushed, GaveUp, 
 use Rattle.mx_records.specs.declared.input.Input.{Input}
 use Rattle.mx_records.specs.declared.input.Input.TheVariants.{Event, Edit, Receipt, Pusher}
 use Rattle.mx_records.specs.Entries.{payload_of, pusher_of}
-use Rattle.mx_records.specs.History.{Addition, History, additions, additions_after, inputs_in, inputs_of, position_after, with_entry, with_input, with_outcome}
+use Rattle.mx_records.specs.History.{Addition, History, additions, additions_after, inputs_in, inputs_of}
+use Rattle.mx_records.specs.History.{position_after, with_entry, with_input, with_outcome}
 use Rattle.mx_records.specs.Pushers.{Living, after_addition, after_entry, has_number, pushers_of}
-use Rattle.mx_records.specs.Refusing.{IsAcceptable, IsAcceptableInput, IsAcceptableOutcome, IsBuilt, IsValid, payloads_of}
+use Rattle.mx_records.specs.Refusing.{IsAcceptable, IsAcceptableInput, IsAcceptableOutcome, IsBuilt, IsValid}
+use Rattle.mx_records.specs.Refusing.{payloads_of}
 use Rattle.mx_records.proofs.HistoryLemmas.{additions_after-push, by_end, inputs_in-push}
 
 -- ---- one entry more

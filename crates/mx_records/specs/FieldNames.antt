@@ -3,7 +3,13 @@ use Rattle.std.specs.Prelude.{ℕ, List, codes}
 use Rattle.mx_rule.specs.declared.edit.Part.{Part}
 use Rattle.mx_rule.specs.declared.edit.Part.TheVariants as part
 use Rattle.mx_records.specs.declared.field_name.FieldName.{FieldName}
-use Rattle.mx_records.specs.declared.field_name.FieldName.TheVariants.{Cmd, EventEventId, EventRoomId, EventSender, EventKind, EventContent, EventStateKey, User, Kind, RuleId, Actions, Conditions, Pattern, Before, After, Enabled, RoomId, EventId, ReceiptKind, ThreadId, Pushkey, AppId, AppDisplayName, DeviceDisplayName, Lang, Data, DataUrl, DataFormat, Append, Ts, Threads, Units}
+use Rattle.mx_records.specs.declared.field_name.FieldName.TheVariants.{Cmd, EventEventId, EventRoomId, EventSender}
+use Rattle.mx_records.specs.declared.field_name.FieldName.TheVariants.{EventKind, EventContent, EventStateKey, User}
+use Rattle.mx_records.specs.declared.field_name.FieldName.TheVariants.{Kind, RuleId, Actions, Conditions, Pattern}
+use Rattle.mx_records.specs.declared.field_name.FieldName.TheVariants.{Before, After, Enabled, RoomId, EventId}
+use Rattle.mx_records.specs.declared.field_name.FieldName.TheVariants.{ReceiptKind, ThreadId, Pushkey, AppId}
+use Rattle.mx_records.specs.declared.field_name.FieldName.TheVariants.{AppDisplayName, DeviceDisplayName, Lang, Data}
+use Rattle.mx_records.specs.declared.field_name.FieldName.TheVariants.{DataUrl, DataFormat, Append, Ts, Threads, Units}
 
 -- the name of a field, with a full stop between the names of an object and of its member
 abbrev pub name_of : FieldName → List ℕ

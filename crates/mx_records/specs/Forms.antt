@@ -1,5 +1,7 @@
 -- What an object has to hold to be an input, field by field: ours.
-use Rattle.std.specs.Prelude.{ℕ, ℤ, pos, negsuc, Bool, true, false, ◌&&◌, ◌||◌, nat_le, if◌then◌else◌, List, [], ◌∷◌, ◌++◌, length, map, chars, codes, Option, None, Some, is_some, option_and_then, option_map, unwrap_or, Result, Ok, Err}
+use Rattle.std.specs.Prelude.{ℕ, ℤ, pos, negsuc, Bool, true, false, ◌&&◌, ◌||◌, nat_le, if◌then◌else◌, List, [], ◌∷◌}
+use Rattle.std.specs.Prelude.{◌++◌, length, map, chars, codes, Option, None, Some, is_some, option_and_then, option_map}
+use Rattle.std.specs.Prelude.{unwrap_or, Result, Ok, Err}
 use Rattle.std.specs.Option.{option_map_or}
 use Rattle.std.specs.Str.{bytes_eq}
 use Rattle.mx_json.specs.declared.value.Json.{Json, Null, out-Json}
@@ -7,7 +9,8 @@ use Rattle.mx_json.specs.declared.value.Json.TheOpen.{Json-F}
 use Rattle.mx_json.specs.declared.value.JsonList.{JsonList}
 use Rattle.mx_json.specs.declared.value.JsonObject.{JsonObject}
 use Rattle.mx_json.specs.Ids.{is_event_id, is_room_id, is_user_id}
-use Rattle.mx_json.specs.Json.{is_object, list_at, list_of, member, text_at, text_of, text_or_empty, top_pairs, truth_at, truth_of, whole_at}
+use Rattle.mx_json.specs.Json.{is_object, list_at, list_of, member, text_at, text_of, text_or_empty, top_pairs}
+use Rattle.mx_json.specs.Json.{truth_at, truth_of, whole_at}
 use Rattle.mx_event.specs.declared.error.EventField.{EventField}
 use Rattle.mx_event.specs.declared.error.EventField.TheVariants as event_field
 use Rattle.mx_event.specs.Event.{fields_of, first_wrong}
@@ -17,13 +20,21 @@ use Rattle.mx_rule.specs.declared.edit.Edit.TheVariants.{Put, Delete, Enable, Se
 use Rattle.mx_rule.specs.declared.kind.Kind.{Kind}
 use Rattle.mx_rule.specs.declared.kind.Kind.TheVariants as kind
 use Rattle.mx_records.specs.declared.field_name.FieldName.{FieldName}
-use Rattle.mx_records.specs.declared.field_name.FieldName.TheVariants.{Cmd, EventEventId, EventRoomId, EventSender, EventKind, EventContent, EventStateKey, User, Kind as KindField, RuleId, Actions, Conditions, Pattern, Before, After, Enabled, RoomId, EventId, ReceiptKind, ThreadId, Pushkey, AppId, AppDisplayName, DeviceDisplayName, Lang, Data, DataUrl, DataFormat, Append, Ts}
+use Rattle.mx_records.specs.declared.field_name.FieldName.TheVariants.{Cmd, EventEventId, EventRoomId, EventSender}
+use Rattle.mx_records.specs.declared.field_name.FieldName.TheVariants.{EventKind, EventContent, EventStateKey, User}
+use Rattle.mx_records.specs.declared.field_name.FieldName.TheVariants.{Kind as KindField, RuleId, Actions, Conditions}
+use Rattle.mx_records.specs.declared.field_name.FieldName.TheVariants.{Pattern, Before, After, Enabled, RoomId, EventId}
+use Rattle.mx_records.specs.declared.field_name.FieldName.TheVariants.{ReceiptKind, ThreadId, Pushkey, AppId}
+use Rattle.mx_records.specs.declared.field_name.FieldName.TheVariants.{AppDisplayName, DeviceDisplayName, Lang, Data}
+use Rattle.mx_records.specs.declared.field_name.FieldName.TheVariants.{DataUrl, DataFormat, Append, Ts}
 use Rattle.mx_records.specs.declared.input.Input.{Input}
 use Rattle.mx_records.specs.declared.input.Input.TheVariants.{Event, Edit, Receipt, Pusher}
 use Rattle.mx_records.specs.declared.input_error.InputError.{InputError}
 use Rattle.mx_records.specs.declared.input_error.InputError.TheVariants.{BadField}
 use Rattle.mx_records.specs.declared.input_word.InputWord.{InputWord}
-use Rattle.mx_records.specs.declared.input_word.InputWord.TheVariants.{Event as EventWord, RulePut, RuleDelete, RuleEnable, RuleActions, Receipt as ReceiptWord, Pusher as PusherWord}
+use Rattle.mx_records.specs.declared.input_word.InputWord.TheVariants.{Event as EventWord, RulePut, RuleDelete}
+use Rattle.mx_records.specs.declared.input_word.InputWord.TheVariants.{RuleEnable, RuleActions, Receipt as ReceiptWord}
+use Rattle.mx_records.specs.declared.input_word.InputWord.TheVariants.{Pusher as PusherWord}
 use Rattle.mx_records.specs.declared.pusher_spec.HttpPusher.{HttpPusher}
 use Rattle.mx_records.specs.declared.pusher_spec.PusherSpec.{PusherSpec}
 use Rattle.mx_records.specs.InputWords.{input_word_in}

@@ -4,7 +4,8 @@ use Rattle.std.specs.Str.{bytes_eq}
 use Rattle.mx_json.specs.declared.value.Json.{Json}
 use Rattle.mx_json.specs.Json.{text_at}
 use Rattle.mx_records.specs.declared.input_word.InputWord.{InputWord}
-use Rattle.mx_records.specs.declared.input_word.InputWord.TheVariants.{Event, RulePut, RuleDelete, RuleEnable, RuleActions, Receipt, Pusher}
+use Rattle.mx_records.specs.declared.input_word.InputWord.TheVariants.{Event, RulePut, RuleDelete, RuleEnable}
+use Rattle.mx_records.specs.declared.input_word.InputWord.TheVariants.{RuleActions, Receipt, Pusher}
 
 -- the word that a text spells, if it is one of the seven
 unfoldable pub input_word_named : List ℕ → Option InputWord

@@ -1,5 +1,6 @@
 -- Which inputs and questions a history refuses, and which entries it may go on with: ours.
-use Rattle.std.specs.Prelude.{ℕ, ◌≤◌, ◌<◌, List, length, map, ◌≡◌, Bool, true, not, ◌&&◌, ◌||◌, nat_eq, nat_le, nat_lt, if◌then◌else◌, Option, None, Some, option_map, find, All}
+use Rattle.std.specs.Prelude.{ℕ, ◌≤◌, ◌<◌, List, length, map, ◌≡◌, Bool, true, not, ◌&&◌, ◌||◌, nat_eq, nat_le, nat_lt}
+use Rattle.std.specs.Prelude.{if◌then◌else◌, Option, None, Some, option_map, find, All}
 use Rattle.std.specs.List.{list_any}
 use Rattle.std.specs.Option.{option_map_or, option_or}
 use Rattle.std.specs.Str.{bytes_eq}
@@ -11,7 +12,9 @@ use Rattle.mx_rule.specs.Editing.{refusal_of_edit}
 use Rattle.mx_records.specs.declared.input.Input.{Input}
 use Rattle.mx_records.specs.declared.input.Input.TheVariants.{Event, Edit, Receipt, Pusher}
 use Rattle.mx_records.specs.declared.refusal.Refusal.{Refusal}
-use Rattle.mx_records.specs.declared.refusal.Refusal.TheVariants.{NotLocal, KnownEvent, UnknownEvent, NotInThread, RuleReserved, BadRule, RuleUnknown, AnchorUnknown, RulesFull, EntryTooLong, Full}
+use Rattle.mx_records.specs.declared.refusal.Refusal.TheVariants.{NotLocal, KnownEvent, UnknownEvent, NotInThread}
+use Rattle.mx_records.specs.declared.refusal.Refusal.TheVariants.{RuleReserved, BadRule, RuleUnknown, AnchorUnknown}
+use Rattle.mx_records.specs.declared.refusal.Refusal.TheVariants.{RulesFull, EntryTooLong, Full}
 use Rattle.mx_json.specs.Json.{depth_of}
 use Rattle.mx_records.specs.declared.entry.Entry.{Entry}
 use Rattle.mx_records.specs.declared.entry.Entry.TheVariants.{Input as InputEntry, Outcome as OutcomeEntry}

@@ -1,10 +1,12 @@
 //! The entry of a payload, read.
 
-ghost use Rattle.std.specs.Prelude.{◌≡◌, ◌≢◌, ◌≤◌, ◌↔◌, ◌∷◌, ◌++◌, length, Ok, IfErr, IfOk, IfSome, IsTrue, MatchOption};
+ghost use Rattle.std.specs.Prelude.{◌≡◌, ◌≢◌, ◌≤◌, ◌↔◌, ◌∷◌, ◌++◌, length, Ok, IfErr, IfOk, IfSome};
+ghost use Rattle.std.specs.Prelude.{IsTrue, MatchOption};
 ghost use Rattle.mx_json.specs.Gives.{Gives};
 ghost use Rattle.mx_records.specs.declared.entry.Entry.{Entry};
 ghost use Rattle.mx_records.specs.declared.entry.Outcome.{Outcome};
-ghost use Rattle.mx_records.specs.Entries.{eight_bytes, input_spelled, input_tag, payload_of, IsFaultIn, IsPayloadOf};
+ghost use Rattle.mx_records.specs.Entries.{eight_bytes, input_spelled, input_tag, payload_of};
+ghost use Rattle.mx_records.specs.Entries.{IsFaultIn, IsPayloadOf};
 ghost use Rattle.mx_records.specs.Normal.{IsNormal};
 
 use crate::encoding::{GAVE_UP_TAG, INPUT_TAG, PUSHED_TAG, REJECTED_TAG, encode_input_into};

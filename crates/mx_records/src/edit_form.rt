@@ -6,9 +6,12 @@ ghost use Rattle.mx_json.specs.Gives.{Gives};
 ghost use Rattle.mx_json.specs.Ids.{is_user_id};
 ghost use Rattle.mx_json.specs.Json.{is_valid, text_at};
 ghost use Rattle.mx_rule.specs.Editing.{given_items};
-ghost use Rattle.mx_records.specs.Forms.{actions_field, actions_in, anchors_form, checked, given_list, has_list_or_none, has_text_or_none};
-ghost use Rattle.mx_records.specs.Forms.{is_rule_id, kind_in, kind_named, rule_id_in, user_in, value_of_form};
-ghost use Rattle.mx_records.specs.Forms.{delete_form, enable_form, put_form, rule_form, set_actions_form};
+ghost use Rattle.mx_records.specs.Forms.{actions_field, actions_in, anchors_form, checked};
+ghost use Rattle.mx_records.specs.Forms.{given_list, has_list_or_none, has_text_or_none};
+ghost use Rattle.mx_records.specs.Forms.{is_rule_id, kind_in, kind_named, rule_id_in, user_in};
+ghost use Rattle.mx_records.specs.Forms.{value_of_form};
+ghost use Rattle.mx_records.specs.Forms.{delete_form, enable_form, put_form, rule_form};
+ghost use Rattle.mx_records.specs.Forms.{set_actions_form};
 ghost use Rattle.mx_records.specs.Rules.{is_valid_input};
 
 use crate::field_name::FieldName;

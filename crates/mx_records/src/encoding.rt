@@ -85,7 +85,8 @@ fn input_payload(alloc: Global, input: &Input) -> Result<Vec<u8>, OutOfMemory>
 
 /// The payload of an event, whose object isn't copied.
 fn event_payload(alloc: Global, event: &Event) -> Result<Vec<u8>, OutOfMemory>
-    ensures { IfOk result (λ payload. payload.items ≡ payload_of (Entry.Input (Input.Event event.now))) }
+    ensures { IfOk result
+        (λ payload. payload.items ≡ payload_of (Entry.Input (Input.Event event.now))) }
 {
     let mut payload = Vec::new(alloc);
     payload.extend_from_slice(BEFORE_AN_EVENT)?;
@@ -111,7 +112,8 @@ fn encode_outcome_into(
     outcome: &Outcome,
     out: &mut Vec<u8>,
 ) -> Result<(), OutOfMemory>
-    ensures ok { OnOk result (out.new.items ≡ out.old.items ++ payload_of (Entry.Outcome outcome.now)) }
+    ensures ok { OnOk result
+        (out.new.items ≡ out.old.items ++ payload_of (Entry.Outcome outcome.now)) }
     ensures err { OnErr result (out.new.items ≡ out.old.items) }
 {
     let payload = outcome_payload(outcome);

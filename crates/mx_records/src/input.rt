@@ -3,7 +3,8 @@ ghost use Rattle.mx_json.specs.Gives.{Gives};
 ghost use Rattle.mx_json.specs.Json.{is_valid};
 ghost use Rattle.mx_records.specs.Rules.{is_valid_input};
 ghost use Rattle.mx_records.specs.Normal.{IsNormal};
-ghost use Rattle.mx_records.specs.Forms.{event_in, name_in_event, event_form, input_in, value_of_form};
+ghost use Rattle.mx_records.specs.Forms.{event_in, name_in_event, event_form, input_in};
+ghost use Rattle.mx_records.specs.Forms.{value_of_form};
 
 use crate::edit_form::{read_delete, read_enable, read_put, read_set_actions};
 use crate::pusher_form::read_pusher;

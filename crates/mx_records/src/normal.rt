@@ -1,7 +1,9 @@
 //! The object that stands for an input that is no event, made of copies.
 
-ghost use Rattle.std.specs.Prelude.{◌≡◌, ◌<◌, ◌^◌, ◌++◌, [], ◌∷◌, codes, option_map, pos, None, Some, IfOk, IfSome};
-ghost use Rattle.mx_records.specs.Normal.{given_pairs, kind_text, list_field, list_if_given, normal_of, object_of, privacy_text, pusher_fields};
+ghost use Rattle.std.specs.Prelude.{◌≡◌, ◌<◌, ◌^◌, ◌++◌, [], ◌∷◌, codes, option_map, pos, None};
+ghost use Rattle.std.specs.Prelude.{Some, IfOk, IfSome};
+ghost use Rattle.mx_records.specs.Normal.{given_pairs, kind_text, list_field, list_if_given};
+ghost use Rattle.mx_records.specs.Normal.{normal_of, object_of, privacy_text, pusher_fields};
 ghost use Rattle.mx_records.specs.Normal.{text_field, text_if_given, thread_text, truth_if_given};
 
 use crate::input::Input;
@@ -92,7 +94,8 @@ fn with_truth(
     truth: bool,
 ) -> Result<JsonObject, OutOfMemory>
     ensures { IfOk result
-        (λ more. more.pairs ≡ object.pairs ++ given_pairs ((key.now, Some (Json.Truth truth)) ∷ [])) }
+        (λ more. more.pairs
+        ≡ object.pairs ++ given_pairs ((key.now, Some (Json.Truth truth)) ∷ [])) }
 {
     object.with(alloc, key, Json::Truth(truth))
 }
@@ -106,7 +109,8 @@ fn with_number(
 ) -> Result<JsonObject, OutOfMemory>
     requires { number < 2 ^ 63 }
     ensures { IfOk result
-        (λ more. more.pairs ≡ object.pairs ++ given_pairs ((key.now, Some (Json.Whole (pos number))) ∷ [])) }
+        (λ more. more.pairs
+        ≡ object.pairs ++ given_pairs ((key.now, Some (Json.Whole (pos number))) ∷ [])) }
 {
     object.with(alloc, key, Json::Whole(number as i64))
 }
@@ -169,7 +173,8 @@ fn put_begun(
 ) -> Result<JsonObject, OutOfMemory>
     ensures { IfOk result (λ object. object.pairs ≡ given_pairs
         (list_field (codes "actions") actions.now ∷ text_if_given (codes "after") after.now
-        ∷ text_if_given (codes "before") before.now ∷ text_field (codes "cmd") (codes "rule_put") ∷ [])) }
+        ∷ text_if_given (codes "before") before.now
+        ∷ text_field (codes "cmd") (codes "rule_put") ∷ [])) }
 {
     let object = with_list(JsonObject::new(alloc), alloc, "actions", actions)?;
     let object = with_text_if_given(object, alloc, "after", after)?;
@@ -189,7 +194,8 @@ fn put_value(
 ) -> Result<Json, OutOfMemory>
     ensures { IfOk result (λ json. json ≡ Json.Object (record {
       pairs = begun.pairs ++ given_pairs
-          (list_if_given (codes "conditions") conditions.now ∷ text_field (codes "kind") (kind_text kind.now)
+          (list_if_given (codes "conditions") conditions.now
+          ∷ text_field (codes "kind") (kind_text kind.now)
           ∷ text_if_given (codes "pattern") pattern.now ∷ text_field (codes "rule_id") rule_id.now
           ∷ text_field (codes "user") user.now ∷ []);
     })) }
@@ -309,7 +315,8 @@ fn with_thread_if_given(
     thread: &Option<ThreadKey>,
 ) -> Result<JsonObject, OutOfMemory>
     ensures { IfOk result (λ more. more.pairs ≡ object.pairs
-        ++ given_pairs (text_if_given (codes "thread_id") (option_map thread_text thread.now) ∷ [])) }
+        ++ given_pairs
+        (text_if_given (codes "thread_id") (option_map thread_text thread.now) ∷ [])) }
 {
     match thread {
         Some(thread) => with_text(object, alloc, "thread_id", thread_text(thread)),
@@ -375,8 +382,10 @@ fn http_begun(
 ) -> Result<JsonObject, OutOfMemory>
     ensures { IfOk result (λ object. object.pairs ≡ given_pairs
         (text_field (codes "app_display_name") http.now.app_display_name
-        ∷ text_field (codes "app_id") spec.now.app_id ∷ truth_if_given (codes "append") http.now.append
-        ∷ text_field (codes "cmd") (codes "pusher") ∷ (codes "data", Some (Json.Object http.now.details))
+        ∷ text_field (codes "app_id") spec.now.app_id
+        ∷ truth_if_given (codes "append") http.now.append
+        ∷ text_field (codes "cmd") (codes "pusher")
+        ∷ (codes "data", Some (Json.Object http.now.details))
         ∷ text_field (codes "device_display_name") http.now.device_display_name ∷ [])) }
 {
     let app = http.app_display_name.as_str();
@@ -402,7 +411,8 @@ fn http_value(
       pairs = begun.pairs ++ given_pairs
           (text_field (codes "kind") (codes "http") ∷ text_field (codes "lang") http.now.lang
           ∷ text_field (codes "pushkey") spec.now.pushkey
-          ∷ (codes "ts", Some (Json.Whole (pos http.now.ts))) ∷ text_field (codes "user") spec.now.user ∷ []);
+          ∷ (codes "ts", Some (Json.Whole (pos http.now.ts)))
+          ∷ text_field (codes "user") spec.now.user ∷ []);
     })) }
 {
     let object = with_text(begun, alloc, "kind", "http")?;

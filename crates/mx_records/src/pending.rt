@@ -3,7 +3,8 @@
 ghost use Rattle.std.specs.Prelude.{◌≡◌, true, slice_get, None, OnErr, OnOk, IfOk, MatchResult};
 ghost use Rattle.std.specs.FinMap as map;
 ghost use Rattle.std.specs.Option.{option_copied};
-ghost use Rattle.mx_records.specs.Pending.{are_rising, tweaks_in, with_user, without_user, IsEntryAt, IsGapAt};
+ghost use Rattle.mx_records.specs.Pending.{are_rising, tweaks_in, with_user, without_user};
+ghost use Rattle.mx_records.specs.Pending.{IsEntryAt, IsGapAt};
 
 use mx_event::Event;
 use mx_json::{JsonText, OutOfMemory, UserId};

@@ -1,12 +1,15 @@
 //! The input that a setting of a pusher is, read from the object of its command.
 
-ghost use Rattle.std.specs.Prelude.{◌≡◌, true, chars, codes, is_some, length, if◌then◌else◌, Some, None, IfOk};
+ghost use Rattle.std.specs.Prelude.{◌≡◌, true, chars, codes, is_some, length, if◌then◌else◌, Some};
+ghost use Rattle.std.specs.Prelude.{None, IfOk};
 ghost use Rattle.mx_records.specs.Rules.{is_valid_input};
 ghost use Rattle.mx_json.specs.Gives.{Gives};
 ghost use Rattle.mx_json.specs.Json.{is_valid, text_at, text_or_empty, truth_at};
 ghost use Rattle.mx_records.specs.Forms.{checked, value_of_form};
-ghost use Rattle.mx_records.specs.Forms.{app_id_in, has_truth_or_none, is_app_id, is_pushkey, pushkey_in, seconds_in, ts_field};
-ghost use Rattle.mx_records.specs.Forms.{data_form, has_pusher_kind, has_url, http_form, is_set, named_form, posting_form, pusher_form, shown_form};
+ghost use Rattle.mx_records.specs.Forms.{app_id_in, has_truth_or_none, is_app_id, is_pushkey};
+ghost use Rattle.mx_records.specs.Forms.{pushkey_in, seconds_in, ts_field};
+ghost use Rattle.mx_records.specs.Forms.{data_form, has_pusher_kind, has_url, http_form, is_set};
+ghost use Rattle.mx_records.specs.Forms.{named_form, posting_form, pusher_form, shown_form};
 
 use crate::edit_form::{read_user, text_or_none};
 use crate::field_name::FieldName;
@@ -224,7 +227,8 @@ fn has_url(details: &Json) -> bool
 fn read_append(json: &Json) -> Result<Option<bool>, InputError>
     requires { is_valid json.now ≡ true }
     ensures { Gives InputError.OutOfMemory result
-        (checked FieldName.Append (has_truth_or_none (codes "append") json.now) (truth_at (codes "append") json.now)) }
+        (checked FieldName.Append (has_truth_or_none (codes "append") json.now)
+        (truth_at (codes "append") json.now)) }
 {
     match json.member("append") {
         None => Ok(None),

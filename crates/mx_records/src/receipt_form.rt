@@ -6,7 +6,8 @@ ghost use Rattle.mx_json.specs.Ids.{is_event_id, is_room_id};
 ghost use Rattle.mx_json.specs.Json.{is_valid};
 ghost use Rattle.mx_rows.specs.declared.thread_key.ThreadKey.TheVariants.{Main};
 ghost use Rattle.mx_records.specs.Forms.{checked, event_id_in, room_id_in, value_of_form};
-ghost use Rattle.mx_records.specs.Forms.{given_thread, has_thread_or_none, privacy_in, privacy_named, thread_named};
+ghost use Rattle.mx_records.specs.Forms.{given_thread, has_thread_or_none, privacy_in};
+ghost use Rattle.mx_records.specs.Forms.{privacy_named, thread_named};
 ghost use Rattle.mx_records.specs.Forms.{read_form, receipt_form};
 ghost use Rattle.mx_records.specs.Rules.{is_valid_input};
 

@@ -50,8 +50,10 @@ static EVENTS: &[(&str, &str)] = &[
     (r#"{"cmd":"event","event":{"event_id":"$1","room_id":"!r","sender":"@a","type":7}}"#, "event.sender"),
     (r#"{"cmd":"event","event":{"event_id":"$1","room_id":"!r","sender":"@a:b","type":7}}"#, "event.type"),
     (r#"{"cmd":"event","event":{"event_id":"$1","room_id":"!r","sender":"@a:b","type":"t"}}"#, "event.content"),
-    (r#"{"cmd":"event","event":{"event_id":"$1","room_id":"!r","sender":"@a:b","type":"t","content":{},"state_key":null}}"#, "event.state_key"),
-    (r#"{"cmd":"event","event":{"event_id":"$1","room_id":"!r","sender":"@a:b","type":"t","content":{},"state_key":""},"ts":0}"#, "none"),
+    (r#"{"cmd":"event","event":{"event_id":"$1","room_id":"!r","sender":"@a:b","type":"t","content":{},"state_key":null}}"#,
+        "event.state_key"),
+    (r#"{"cmd":"event","event":{"event_id":"$1","room_id":"!r","sender":"@a:b","type":"t","content":{},"state_key":""},"ts":0}"#,
+        "none"),
 ];
 
 #[test]
@@ -72,12 +74,15 @@ static PUTS: &[(&str, &str)] = &[
     (r#"{"cmd":"rule_put","user":"@a:b","kind":"content","rule_id":"r","conditions":{}}"#, "actions"),
     (r#"{"cmd":"rule_put","user":"@a:b","kind":"content","rule_id":"r","actions":null,"conditions":{}}"#, "actions"),
     (r#"{"cmd":"rule_put","user":"@a:b","kind":"content","rule_id":"r","actions":[],"conditions":{},"pattern":7}"#, "conditions"),
-    (r#"{"cmd":"rule_put","user":"@a:b","kind":"override","rule_id":"r","actions":[],"conditions":null,"pattern":7}"#, "conditions"),
+    (r#"{"cmd":"rule_put","user":"@a:b","kind":"override","rule_id":"r","actions":[],"conditions":null,"pattern":7}"#,
+        "conditions"),
     (r#"{"cmd":"rule_put","user":"@a:b","kind":"override","rule_id":"r","actions":[],"pattern":null,"before":7}"#, "pattern"),
-    (r#"{"cmd":"rule_put","user":"@a:b","kind":"room","rule_id":"r","actions":[],"pattern":"p","before":null,"after":7}"#, "before"),
+    (r#"{"cmd":"rule_put","user":"@a:b","kind":"room","rule_id":"r","actions":[],"pattern":"p","before":null,"after":7}"#,
+        "before"),
     (r#"{"cmd":"rule_put","user":"@a:b","kind":"room","rule_id":"r","actions":[],"before":"r","after":null}"#, "after"),
     (r#"{"cmd":"rule_put","user":"@a:b","kind":"room","rule_id":"r","actions":[]}"#, "none"),
-    (r#"{"cmd":"rule_put","user":"@a:b","kind":"content","rule_id":"r","actions":[7],"conditions":[7],"pattern":"","before":"","after":""}"#, "none"),
+    (r#"{"cmd":"rule_put","user":"@a:b","kind":"content","rule_id":"r","actions":[7],"conditions":[7],"pattern":"","before":"","after":""}"#,
+        "none"),
 ];
 
 #[test]

@@ -1,5 +1,6 @@
 -- What is shown of the rooms that are kept, and what a new room or a changed one changes there.
-use Rattle.std.proofs.Common.{◌≡◌, ℕ, Bool, true, false, cond, List, [], ◌∷◌, Option, Some, None, IfSome, is_some, option_and_then, option_map, unwrap_or, refl, sym, subst, ap, ◌∙◌}
+use Rattle.std.proofs.Common.{◌≡◌, ℕ, Bool, true, false, cond, List, [], ◌∷◌, Option, Some, None, IfSome, is_some}
+use Rattle.std.proofs.Common.{option_and_then, option_map, unwrap_or, refl, sym, subst, ap, ◌∙◌}
 use Rattle.std.specs.Cmp.Lexicographic.{nat_list_cmp_total, nat_list_eq_equiv, slice_cmp}
 use Rattle.std.specs.FinMap.{find, get, get-from_entries, insert}
 use Rattle.std.specs.FinSet as set
@@ -13,7 +14,8 @@ use Rattle.std.proofs.lemmas.Map.Entries.{lookup-filter-values, none_past_head, 
 use Rattle.std.proofs.lemmas.Map.Keys.{IsDistinct-tail}
 use Rattle.std.proofs.lemmas.Map.Made.{is_some-lookup}
 use Rattle.mx_room.specs.Change.{Sets, with_sets}
-use Rattle.mx_room.specs.Hosted.{AreHosted, HostedRooms, IsHosted, IsListing, KeepsRooms, is_ready, known_state, ready_in, states_in}
+use Rattle.mx_room.specs.Hosted.{AreHosted, HostedRooms, IsHosted, IsListing, KeepsRooms, is_ready, known_state}
+use Rattle.mx_room.specs.Hosted.{ready_in, states_in}
 use Rattle.mx_room.specs.Rooms.{is_local_member, room_at, with_room}
 use Rattle.mx_room.specs.State.{RoomState, room_of}
 use Rattle.mx_room.specs.declared.hosted.HostedRoom.{HostedRoom}

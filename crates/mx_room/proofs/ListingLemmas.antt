@@ -1,5 +1,6 @@
 -- How the list of a room's joined local users steps where something is said of one user.
-use Rattle.std.proofs.Common.{◌≡◌, ℕ, Bool, true, false, cond, ◌&&◌, ◌||◌, not, codes, List, [], ◌∷◌, ◌++◌, Option, Some, None, is_some, refl, sym, subst, ap, ◌∙◌}
+use Rattle.std.proofs.Common.{◌≡◌, ℕ, Bool, true, false, cond, ◌&&◌, ◌||◌, not, codes, List, [], ◌∷◌, ◌++◌, Option}
+use Rattle.std.proofs.Common.{Some, None, is_some, refl, sym, subst, ap, ◌∙◌}
 use Rattle.std.specs.Cmp.Lexicographic.{nat_list_eq_equiv, slice_cmp}
 use Rattle.std.specs.FinMap.{empty, get, get-empty, insert}
 use Rattle.std.specs.List.{AllByRecursion, IsDistinct, filter, list_any}
@@ -182,7 +183,8 @@ nobody_joined server q =
 -- where nothing is known of a room the membership of everybody is `leave`
 pub nobody_member : (q : List ℕ) → membership_at (room_of []) q ≡ codes "leave"
 nobody_member q =
-    ap (λ (members : Texts Member). option_map_or (λ (m : Member). m.membership) (get members q) (codes "leave")) no_members
+    ap (λ (members : Texts Member). option_map_or (λ (m : Member). m.membership) (get members q) (codes "leave"))
+    no_members
     ∙ ap (λ (o : Option Member). option_map_or (λ (m : Member). m.membership) o (codes "leave"))
     (get-empty (slice_cmp nat_cmp) q)
 

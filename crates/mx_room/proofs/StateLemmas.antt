@@ -1,5 +1,6 @@
 -- How the state of a room steps with one more event.
-use Rattle.std.proofs.Common.{◌≡◌, ℕ, Bool, true, false, cond, ◌&&◌, ◌||◌, List, [], ◌∷◌, ◌++◌, Option, Some, None, ◌⊎◌, inl, inr, ⊎_elim, option_map, refl, sym, ap, ◌∙◌}
+use Rattle.std.proofs.Common.{◌≡◌, ℕ, Bool, true, false, cond, ◌&&◌, ◌||◌, List, [], ◌∷◌, ◌++◌, Option, Some, None, ◌⊎◌}
+use Rattle.std.proofs.Common.{inl, inr, ⊎_elim, option_map, refl, sym, ap, ◌∙◌}
 use Rattle.std.specs.List.{cons_option, filter_map, list_any}
 use Rattle.std.specs.Option.{option_map_or, option_or}
 use Rattle.std.specs.Str.{bytes_eq}
@@ -7,8 +8,10 @@ use Rattle.std.proofs.lemmas.Bool.{cases_Bool}
 use Rattle.std.proofs.lemmas.Option.{same_Some}
 use Rattle.mx_json.specs.declared.value.Json.{Json}
 use Rattle.mx_event.specs.Event.{content_of, kind_of, membership_of, state_key_of, told_membership}
-use Rattle.mx_room.specs.Change.{Sets, after, creator_set_by, member_set_by, powers_set_by, sets_of, with_member, with_sets}
-use Rattle.mx_room.specs.State.{RoomState, create_kind, creator_by, is_state, last_of, member_by, member_in, member_kind, named_by, powers_kind, room_of, state_if, state_of}
+use Rattle.mx_room.specs.Change.{Sets, after, creator_set_by, member_set_by, powers_set_by, sets_of, with_member}
+use Rattle.mx_room.specs.Change.{with_sets}
+use Rattle.mx_room.specs.State.{RoomState, create_kind, creator_by, is_state, last_of, member_by, member_in}
+use Rattle.mx_room.specs.State.{member_kind, named_by, powers_kind, room_of, state_if, state_of}
 use Rattle.mx_room.specs.Texts.{Texts, table}
 use Rattle.mx_room.specs.declared.member.Member.{Member}
 use Rattle.mx_room.proofs.TextsLemmas.{IsCovered, same_table, table-set}

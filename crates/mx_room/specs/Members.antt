@@ -1,5 +1,7 @@
--- What is asked of a room's state: memberships, display names, joined members and powers (Client-Server API v1.11, "m.room.member", "m.room.power_levels").
-use Rattle.std.specs.Prelude.{ℕ, ℤ, pos, Bool, true, false, ◌&&◌, if◌then◌else◌, List, codes, Option, option_and_then, unwrap_or}
+-- What is asked of a room's state: memberships, display names, joined members and powers (Client-Server API v1.11,
+-- "m.room.member", "m.room.power_levels").
+use Rattle.std.specs.Prelude.{ℕ, ℤ, pos, Bool, true, false, ◌&&◌, if◌then◌else◌, List, codes, Option, option_and_then}
+use Rattle.std.specs.Prelude.{unwrap_or}
 use Rattle.std.specs.FinMap.{get, keys, len}
 use Rattle.std.specs.Option.{option_map_or}
 use Rattle.std.specs.Str.{bytes_eq}

@@ -1,5 +1,7 @@
--- The state of a room: the last event of each type and state key (Client-Server API v1.11, "Room events"), and what is read off it.
-use Rattle.std.specs.Prelude.{ℕ, Bool, false, ◌&&◌, if◌then◌else◌, List, [], ◌∷◌, codes, Option, Some, None, option_map, unwrap_or}
+-- The state of a room: the last event of each type and state key (Client-Server API v1.11, "Room events"),
+-- and what is read off it.
+use Rattle.std.specs.Prelude.{ℕ, Bool, false, ◌&&◌, if◌then◌else◌, List, [], ◌∷◌, codes, Option, Some, None, option_map}
+use Rattle.std.specs.Prelude.{unwrap_or}
 use Rattle.std.specs.List.{filter_map}
 use Rattle.std.specs.Option.{option_map_or, option_or}
 use Rattle.std.specs.Str.{bytes_eq}
@@ -34,7 +36,8 @@ state_of events kind key = last_of (state_if kind key) events
 abbrev pub member_kind : List ℕ
 member_kind = codes "m.room.member"
 
--- what an `m.room.member` event says of the user: the membership, `leave` where it is no text, and the display name, where it is a text
+-- what an `m.room.member` event says of the user: the membership, `leave` where it is no text,
+-- and the display name, where it is a text
 abbrev pub member_by : Json → Member
 member_by event = record {
   membership = told_membership event;

@@ -1,4 +1,5 @@
-ghost use Rattle.std.specs.Prelude.{◌≡◌, ◌<◌, ◌++◌, ◌∷◌, [], true, List, IfOk, IfSome, IsSome, OnOk, option_and_then, option_map};
+ghost use Rattle.std.specs.Prelude.{◌≡◌, ◌<◌, ◌++◌, ◌∷◌, [], true, List, IfOk, IfSome, IsSome};
+ghost use Rattle.std.specs.Prelude.{OnOk, option_and_then, option_map};
 ghost use Rattle.std.specs.FinMap.{get, insert, len};
 ghost use Rattle.std.specs.HashMap.{spare};
 ghost use Rattle.std.specs.Option.{option_copied, option_or};
@@ -6,7 +7,8 @@ ghost use Rattle.std.specs.String.{string_bytes};
 ghost use Rattle.mx_json.specs.declared.value.Json.{Json};
 ghost use Rattle.mx_room.specs.Change.{after, sets_of, with_member, with_sets};
 ghost use Rattle.mx_room.specs.Kept.{by_bytes, by_text};
-ghost use Rattle.mx_room.specs.Members.{has_joined, joined_count, joined_where, joins, membership_at};
+ghost use Rattle.mx_room.specs.Members.{has_joined, joined_count, joined_where, joins};
+ghost use Rattle.mx_room.specs.Members.{membership_at};
 ghost use Rattle.mx_room.specs.State.{room_of};
 
 use crate::member::Member;
@@ -186,7 +188,8 @@ fn is_joined(members: &HashMap<String, Member>, user: &str) -> bool
 fn joined_after(members: &HashMap<String, Member>, joined: u64, user: &str, member: &Member) -> u64
     requires { joined ≡ len (joined_where (λ _. true) (by_text members.now.entries)) }
     ensures { result
-        ≡ len (joined_where (λ _. true) (insert (by_text members.now.entries) user.now member.now)) }
+        ≡ len
+        (joined_where (λ _. true) (insert (by_text members.now.entries) user.now member.now)) }
 {
     let _at_most = members.len();
     let joins = u64::from(member.has_joined());

@@ -113,8 +113,8 @@ impl Rooms {
         }
     }
 
-    /// The user's membership of a room; `leave` where no event of the room speaks of the user. Takes
-    /// no memory.
+    /// The user's membership of a room; `leave` where no event of the room speaks of the user.
+    /// Takes no memory.
     pub fn membership(&self, id: &RoomId, user: &str) -> &str
         ensures { result.now ≡ membership_at (room_at self.now.states id.now) user.now }
     {

@@ -1,6 +1,8 @@
 -- A cut of every thread: what stays true from one thread to the next, and what is left at the end.
-use Rattle.std.proofs.Common.{◌≡◌, ℕ, ◌+◌, ◌<◌, ◌≤◌, min, nat_lt, nat_le, true, List, [], ◌∷◌, length, count_by, get_or, Option, Some, None, refl, sym, ap, ◌∙◌, subst, arith}
-use Rattle.std.proofs.lemmas.Bool.{and_parts, and_from, cond-true, cond-false, cond_both, le-leb, lt-leb, lt-ltb, ltb-true}
+use Rattle.std.proofs.Common.{◌≡◌, ℕ, ◌+◌, ◌<◌, ◌≤◌, min, nat_lt, nat_le, true, List, [], ◌∷◌, length, count_by, get_or}
+use Rattle.std.proofs.Common.{Option, Some, None, refl, sym, ap, ◌∙◌, subst, arith}
+use Rattle.std.proofs.lemmas.Bool.{and_parts, and_from, cond-true, cond-false, cond_both, le-leb, lt-leb, lt-ltb}
+use Rattle.std.proofs.lemmas.Bool.{ltb-true}
 use Rattle.std.proofs.lemmas.List.Sums.{sum_by-le}
 use Rattle.std.proofs.lemmas.Map.Entries.{place_from_lookup}
 use Rattle.std.proofs.lemmas.Option.{slice_get_within}
@@ -11,7 +13,8 @@ use Rattle.mx_rows.specs.declared.counts.Counts.{Counts}
 use Rattle.mx_rows.specs.declared.row.Row.{Row}
 use Rattle.mx_rows.specs.declared.thread_key.ThreadKey.{ThreadKey}
 use Rattle.mx_rows.specs.declared.thread_rows.ThreadRows.{ThreadRows}
-use Rattle.mx_rows.specs.Plain.{are_needed, AreDistinct, Entries, InOrder, highlights_left_to_cut, reserved_in, rows_in, rows_left_to_cut, start_at}
+use Rattle.mx_rows.specs.Plain.{are_needed, AreDistinct, Entries, InOrder, highlights_left_to_cut, reserved_in, rows_in}
+use Rattle.mx_rows.specs.Plain.{rows_left_to_cut, start_at}
 use Rattle.mx_rows.specs.Rows.{above, is_rising, largest_count, start_of, upto}
 use Rattle.mx_rows.specs.Threads.{same_thread}
 use Rattle.mx_rows.proofs.EntryLemmas.{get_or_of_slice_get}

@@ -1,5 +1,6 @@
 -- No thread is kept without a row or capacity: what holds of each entry, after one was written, moved or taken out.
-use Rattle.std.proofs.Common.{◌≡◌, ℕ, zero, suc, Bool, true, false, cond, not, ◌&&◌, ◌||◌, List, [], ◌∷◌, ◌++◌, insert, remove, slice_get, Some, refl, sym, ap, ◌∙◌}
+use Rattle.std.proofs.Common.{◌≡◌, ℕ, zero, suc, Bool, true, false, cond, not, ◌&&◌, ◌||◌, List, [], ◌∷◌, ◌++◌, insert}
+use Rattle.std.proofs.Common.{remove, slice_get, Some, refl, sym, ap, ◌∙◌}
 use Rattle.std.proofs.lemmas.Bool.{and_parts, and_from, cond_both, false≢true, not-false}
 use Rattle.std.specs.List.{list_all}
 use Rattle.indexmap.specs.IndexMap.{set_value_at}

@@ -1,5 +1,6 @@
 -- Rows of unread events: counts and cuts of a list of them, and the order of threads. Ours.
-use Rattle.std.specs.Prelude.{ℕ, ◌-◌, ◌^◌, min, nat_lt, nat_le, Bool, true, false, ◌&&◌, List, [], ◌∷◌, length, map, filter, count_by}
+use Rattle.std.specs.Prelude.{ℕ, ◌-◌, ◌^◌, min, nat_lt, nat_le, Bool, true, false, ◌&&◌, List, [], ◌∷◌, length, map}
+use Rattle.std.specs.Prelude.{filter, count_by}
 use Rattle.std.specs.List.{list_all}
 use Rattle.mx_rows.specs.declared.counts.Counts.{Counts}
 use Rattle.mx_rows.specs.declared.row.Row.{Row}

@@ -1,9 +1,11 @@
-ghost use Rattle.std.specs.Prelude.{◌≡◌, ◌<◌, ◌&&◌, ◌||◌, true, false, if◌then◌else◌, [], ◌∷◌, ◌++◌, is_ok, length, All, slice_get, Some, None};
+ghost use Rattle.std.specs.Prelude.{◌≡◌, ◌<◌, ◌&&◌, ◌||◌, true, false, if◌then◌else◌, [], ◌∷◌};
+ghost use Rattle.std.specs.Prelude.{◌++◌, is_ok, length, All, slice_get, Some, None};
 ghost use Rattle.std.specs.Map.{lookup};
 ghost use Rattle.indexmap.specs.IndexMap.{set_value_at};
 ghost use Rattle.mx_rows.specs.declared.thread_key.ThreadKey.{ThreadKey};
 ghost use Rattle.mx_rows.specs.declared.thread_rows.ThreadRows.{ThreadRows};
-ghost use Rattle.mx_rows.specs.Plain.{are_needed, AreDistinct, Entry, InOrder, reserved_in, rows_in};
+ghost use Rattle.mx_rows.specs.Plain.{are_needed, AreDistinct, Entry, InOrder, reserved_in};
+ghost use Rattle.mx_rows.specs.Plain.{rows_in};
 ghost use Rattle.mx_rows.specs.Threads.{same_thread};
 
 use crate::row::Row;

@@ -1,8 +1,12 @@
-ghost use Rattle.std.specs.Prelude.{◌≡◌, true, ℕ, ◌+◌, ◌<◌, ◌≤◌, min, if◌then◌else◌, List, [], length, insert, remove, slice_get, slice_index_or, Some, IfSome, IfNone};
+ghost use Rattle.std.specs.Prelude.{◌≡◌, true, ℕ, ◌+◌, ◌<◌, ◌≤◌, min, if◌then◌else◌, List, []};
+ghost use Rattle.std.specs.Prelude.{length, insert, remove, slice_get, slice_index_or, Some};
+ghost use Rattle.std.specs.Prelude.{IfSome, IfNone};
 ghost use Rattle.indexmap.specs.IndexMap.{set_value_at};
 ghost use Rattle.mx_rows.specs.declared.thread_key.ThreadKey.{ThreadKey};
 ghost use Rattle.mx_rows.specs.declared.thread_rows.ThreadRows.{ThreadRows};
-ghost use Rattle.mx_rows.specs.Plain.{are_needed, AreDistinct, Entry, highlights_left_to_cut, InOrder, is_spent, IsPlace, reserved_in, rows_in, rows_left_to_cut, start_at};
+ghost use Rattle.mx_rows.specs.Plain.{are_needed, AreDistinct, Entry, highlights_left_to_cut};
+ghost use Rattle.mx_rows.specs.Plain.{InOrder, is_spent, IsPlace, reserved_in, rows_in};
+ghost use Rattle.mx_rows.specs.Plain.{rows_left_to_cut, start_at};
 ghost use Rattle.mx_rows.specs.Rows.{above, counts_in, largest_count, start_of, upto};
 ghost use Rattle.mx_rows.specs.Threads.{same_thread};
 
@@ -47,7 +51,8 @@ pub fn cut_at(threads: &mut Threads, index: usize, position: u64) -> Counts
         → result ≡ counts_in (upto position e.1.rows.items) }
     ensures fewer_rows { rows_left_to_cut position threads.new.entries + result.notify
         ≡ rows_left_to_cut position threads.old.entries }
-    ensures fewer_highlights { highlights_left_to_cut position threads.new.entries + result.highlight
+    ensures fewer_highlights { highlights_left_to_cut position threads.new.entries
+        + result.highlight
         ≡ highlights_left_to_cut position threads.old.entries }
 {
     let to = place_of(threads, index, threads[index].start_above(position));

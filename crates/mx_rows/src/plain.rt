@@ -19,12 +19,12 @@ use std::alloc::Global;
 /// Rows in one list a thread, all of which count as packed.
 ///
 /// A thread is found by its key in one look-up, and the threads are kept in the order of their
-/// first rows. So `push` is one look-up, whatever the number of threads, `counts` besides walks over
-/// the thread's rows, and `thread_at` reads one place. A `cut` walks over the rows of its thread, and
-/// then moves the thread past those that now start before it, or shifts those after it where nothing
-/// is left of it. A `cut_all` does so for each thread that starts at or below its position, from the
-/// last of them on, so that threads that all go cost no shift. A thread without rows and without
-/// capacity isn't kept.
+/// first rows. So `push` is one look-up, whatever the number of threads, `counts` besides walks
+/// over the thread's rows, and `thread_at` reads one place. A `cut` walks over the rows of its
+/// thread, and then moves the thread past those that now start before it, or shifts those after it
+/// where nothing is left of it. A `cut_all` does so for each thread that starts at or below its
+/// position, from the last of them on, so that threads that all go cost no shift. A thread without
+/// rows and without capacity isn't kept.
 #[derive(Drop)]
 pub struct PlainRows {
     threads: Threads,

@@ -1,10 +1,13 @@
-ghost use Rattle.std.specs.Prelude.{◌≡◌, ◌+◌, ◌<◌, ◌≤◌, Bool, true, false, ◌&&◌, ◌||◌, if◌then◌else◌, nat_le, is_ok, List, [], ◌∷◌, ◌++◌, length, drop, slice_get, All, IfOk, OnOk, OnErr, IfSome, IfNone};
+ghost use Rattle.std.specs.Prelude.{◌≡◌, ◌+◌, ◌<◌, ◌≤◌, Bool, true, false, ◌&&◌, ◌||◌};
+ghost use Rattle.std.specs.Prelude.{if◌then◌else◌, nat_le, is_ok, List, [], ◌∷◌, ◌++◌, length};
+ghost use Rattle.std.specs.Prelude.{drop, slice_get, All, IfOk, OnOk, OnErr, IfSome, IfNone};
 ghost use Rattle.std.specs.List.{flat_map, IsDistinct};
 ghost use Rattle.std.specs.Option.{option_copied};
 ghost use Rattle.std.specs.Result.{result_unwrap_or};
 ghost use Rattle.mx_rows.specs.declared.row.Row.{Row};
 ghost use Rattle.mx_rows.specs.declared.thread_key.ThreadKey.{ThreadKey};
-ghost use Rattle.mx_rows.specs.Rows.{above, are_in_order, counts_in, has_rows, is_rising, saturated, upto, with_rows};
+ghost use Rattle.mx_rows.specs.Rows.{above, are_in_order, counts_in, has_rows, is_rising};
+ghost use Rattle.mx_rows.specs.Rows.{saturated, upto, with_rows};
 ghost use Rattle.mx_rows.specs.Threads.{has_thread, same_thread};
 
 use crate::counts::{Counts, Sizes};

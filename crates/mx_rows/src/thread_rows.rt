@@ -1,6 +1,9 @@
-ghost use Rattle.std.specs.Prelude.{◌≡◌, ◌<◌, ◌&&◌, ◌||◌, not, nat_lt, nat_le, count_by, find, true, false, [], ◌∷◌, ◌++◌, is_ok, All, IfOk, vec_len, vec_capacity};
+ghost use Rattle.std.specs.Prelude.{◌≡◌, ◌<◌, ◌&&◌, ◌||◌, not, nat_lt, nat_le, count_by, find};
+ghost use Rattle.std.specs.Prelude.{true, false, [], ◌∷◌, ◌++◌, is_ok, All, IfOk, vec_len};
+ghost use Rattle.std.specs.Prelude.{vec_capacity};
 ghost use Rattle.std.specs.Option.{option_copied};
-ghost use Rattle.mx_rows.specs.Rows.{above, are_in_range, counts_in, has_rows, is_rising, start_of, upto};
+ghost use Rattle.mx_rows.specs.Rows.{above, are_in_range, counts_in, has_rows, is_rising, start_of};
+ghost use Rattle.mx_rows.specs.Rows.{upto};
 
 use crate::counts::Counts;
 use crate::row::Row;

@@ -1,8 +1,11 @@
-ghost use Rattle.std.specs.Prelude.{◌≡◌, ℕ, ◌+◌, ◌<◌, ◌≤◌, if◌then◌else◌, List, [], length, insert, remove, slice_get, slice_index_or, Some};
+ghost use Rattle.std.specs.Prelude.{◌≡◌, ℕ, ◌+◌, ◌<◌, ◌≤◌, if◌then◌else◌, List, [], length, insert};
+ghost use Rattle.std.specs.Prelude.{remove, slice_get, slice_index_or, Some};
 ghost use Rattle.indexmap.specs.IndexMap.{set_value_at};
 ghost use Rattle.mx_rows.specs.declared.thread_key.ThreadKey.{ThreadKey};
 ghost use Rattle.mx_rows.specs.declared.thread_rows.ThreadRows.{ThreadRows};
-ghost use Rattle.mx_rows.specs.Plain.{are_needed, AreDistinct, Entry, highlights_left_to_cut, InOrder, is_spent, IsPlace, reserved_in, rows_in, rows_left_to_cut, start_at};
+ghost use Rattle.mx_rows.specs.Plain.{are_needed, AreDistinct, Entry, highlights_left_to_cut};
+ghost use Rattle.mx_rows.specs.Plain.{InOrder, is_spent, IsPlace, reserved_in, rows_in};
+ghost use Rattle.mx_rows.specs.Plain.{rows_left_to_cut, start_at};
 ghost use Rattle.mx_rows.specs.Rows.{above, counts_in, start_of, upto};
 ghost use Rattle.mx_rows.specs.Threads.{same_thread};
 

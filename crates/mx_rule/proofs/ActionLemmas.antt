@@ -1,5 +1,6 @@
 -- What the last of some actions says, action by action.
-use Rattle.std.proofs.Common.{◌≡◌, ℕ, ◌+◌, ◌<◌, length, get_or, take, List, [], ◌∷◌, ◌++◌, Option, Some, None, option_map, refl, ap, sym, ◌∙◌}
+use Rattle.std.proofs.Common.{◌≡◌, ℕ, ◌+◌, ◌<◌, length, get_or, take, List, [], ◌∷◌, ◌++◌, Option, Some, None}
+use Rattle.std.proofs.Common.{option_map, refl, ap, sym, ◌∙◌}
 use Rattle.std.proofs.lemmas.List.{take_more}
 use Rattle.std.specs.Option.{option_or}
 use Rattle.mx_rule.specs.declared.action.Action.{Action}
@@ -30,6 +31,7 @@ last_said-more says actions i action within is =
     ∙ ap (λ a. option_or (says a) (last_said says (take i actions))) (sym is)
 
 -- what is said of two answers one after the other
-pub option_map-option_or : {A B : Type 0} (f : A → B) (a b : Option A) → option_map f (option_or a b) ≡ option_or (option_map f a) (option_map f b)
+pub option_map-option_or : {A B : Type 0} (f : A → B) (a b : Option A)
+    → option_map f (option_or a b) ≡ option_or (option_map f a) (option_map f b)
 option_map-option_or f None b = refl
 option_map-option_or f (Some x) b = refl

@@ -1,10 +1,13 @@
 -- Rules by their places: what a change makes of a list that is kept by its ids, and where the rule with an id stands.
-use Rattle.std.proofs.Common.{◌≡◌, ℕ, zero, suc, ◌+◌, Bool, true, false, not, cond, ◌||◌, List, [], ◌∷◌, length, nat_lt, map, count_by, sum_by, position, remove, slice_get, Option, Some, None, option_map, is_some, refl, sym, ap, subst, ◌∙◌, arith, String, Global, string_bytes}
+use Rattle.std.proofs.Common.{◌≡◌, ℕ, zero, suc, ◌+◌, Bool, true, false, not, cond, ◌||◌, List, [], ◌∷◌, length, nat_lt}
+use Rattle.std.proofs.Common.{map, count_by, sum_by, position, remove, slice_get, Option, Some, None, option_map}
+use Rattle.std.proofs.Common.{is_some, refl, sym, ap, subst, ◌∙◌, arith, String, Global, string_bytes}
 use Rattle.std.specs.List.{list_any, position_or_len}
 use Rattle.std.specs.Map.{keys_of}
 use Rattle.std.specs.Str.{bytes_eq}
 use Rattle.indexmap.specs.IndexMap.{set_value_at}
-use Rattle.std.proofs.lemmas.Bool.{and_from, and_parts, cond-false, cond-true, le-ltb, lt-ltb, ltb-false, ltb-true, not-true, not_from_false, not_from_true, or_from, or_parts}
+use Rattle.std.proofs.lemmas.Bool.{and_from, and_parts, cond-false, cond-true, le-ltb, lt-ltb, ltb-false, ltb-true}
+use Rattle.std.proofs.lemmas.Bool.{not-true, not_from_false, not_from_true, or_from, or_parts}
 use Rattle.std.proofs.lemmas.List.Sums.{sum_by-cons}
 use Rattle.mx_rule.specs.declared.kind.Kind.TheVariants.{Override, Content}
 use Rattle.mx_rule.specs.Editing.{changed_at, has_id, with_changed, without}

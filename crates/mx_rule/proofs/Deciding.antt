@@ -1,5 +1,8 @@
 -- Each test of `specs/Deciding.antt` is true exactly where the relation that it stands for holds.
-use Rattle.std.proofs.Common.{◌≡◌, ℕ, suc, ◌<◌, ◌≤◌, ◌≤ℤ◌, ℤ, int_le, int_eq, Bool, true, false, not, ◌==◌, nat_le, ◌&&◌, if◌then◌else◌, T, List, [], ◌∷◌, length, drop, Option, Some, None, refl, sym, ap, ◌∙◌, subst, arith, Any, HoldsAt, IsSomeAnd, IsTrue, MatchBool, slice_get, slice_index_or, slice_range, option_and_then}
+use Rattle.std.proofs.Common.{◌≡◌, ℕ, suc, ◌<◌, ◌≤◌, ◌≤ℤ◌, ℤ, int_le, int_eq, Bool, true, false, not, ◌==◌, nat_le}
+use Rattle.std.proofs.Common.{◌&&◌, if◌then◌else◌, T, List, [], ◌∷◌, length, drop, Option, Some, None, refl, sym, ap}
+use Rattle.std.proofs.Common.{◌∙◌, subst, arith, Any, HoldsAt, IsSomeAnd, IsTrue, MatchBool, slice_get, slice_index_or}
+use Rattle.std.proofs.Common.{slice_range, option_and_then}
 use Rattle.std.specs.Bool.{Decides, beq}
 use Rattle.std.specs.Cmp.{booleans_Decides}
 use Rattle.std.specs.Int.Signed.{le_z_yes}
@@ -7,7 +10,8 @@ use Rattle.std.specs.List.{list_all, list_any}
 use Rattle.std.specs.Option.{option_map_or}
 use Rattle.std.specs.Str.{bytes_eq}
 use Rattle.std.proofs.lemmas.Bool.{false≢true, le-leb, leb-true}
-use Rattle.std.proofs.lemmas.Bool.Decides.{Decides-and, Decides-below_or, Decides-by_and, Decides-by_or, Decides-eqb, Decides-int_eq, Decides-like, Decides-ltb, Decides-not}
+use Rattle.std.proofs.lemmas.Bool.Decides.{Decides-and, Decides-below_or, Decides-by_and, Decides-by_or, Decides-eqb}
+use Rattle.std.proofs.lemmas.Bool.Decides.{Decides-int_eq, Decides-like, Decides-ltb, Decides-not}
 use Rattle.std.proofs.lemmas.List.{get_or_default}
 use Rattle.std.proofs.lemmas.Slice.Eq.{bytes_eq-Decides}
 use Rattle.mx_json.specs.declared.value.Json.{Json, Null as NullJson}
@@ -22,7 +26,9 @@ use Rattle.mx_cond.specs.declared.count.Comparison.TheVariants.{Equal, Below, Ab
 use Rattle.mx_cond.specs.declared.plain.Plain.{Plain}
 use Rattle.mx_cond.specs.declared.plain.Plain.TheVariants.{Null, Truth, Whole, Text}
 use Rattle.mx_cond.specs.declared.wanted.Wanted.{Wanted}
-use Rattle.mx_cond.specs.declared.wanted.Wanted.TheVariants.{EventMatch, EventPropertyIs, EventPropertyContains, RoomMemberCount, SenderNotificationPermission, ContainsDisplayName, Unknown}
+use Rattle.mx_cond.specs.declared.wanted.Wanted.TheVariants.{EventMatch, EventPropertyIs, EventPropertyContains}
+use Rattle.mx_cond.specs.declared.wanted.Wanted.TheVariants.{RoomMemberCount, SenderNotificationPermission}
+use Rattle.mx_cond.specs.declared.wanted.Wanted.TheVariants.{ContainsDisplayName, Unknown}
 use Rattle.mx_cond.specs.Condition.{plain_of, wanted_by}
 use Rattle.mx_cond.specs.Facts.{EventFacts}
 use Rattle.mx_cond.specs.Holds.{Equals, HasText, Holds, IsMet, MatchesAt, NamesOwner, body_path, is_body, members_of}
@@ -31,7 +37,9 @@ use Rattle.mx_cond.specs.PowerLevels.{needed_power}
 use Rattle.mx_rule.specs.declared.criterion.Criterion.{Criterion}
 use Rattle.mx_rule.specs.declared.criterion.Criterion.TheVariants.{Conditions, Word, InRoom, FromSender}
 use Rattle.mx_rule.specs.Rule.{MayDecide, Meets, PushRule, is_passed_over}
-use Rattle.mx_rule.specs.Deciding.{after_any, after_character, compares, equals, glob, glob_word, has_text, has_word, holds, is_met, is_word_at, matches_at, may_decide, meets, names_owner, same_plain, some_below, some_upto, some_word}
+use Rattle.mx_rule.specs.Deciding.{after_any, after_character, compares, equals, glob, glob_word, has_text, has_word}
+use Rattle.mx_rule.specs.Deciding.{holds, is_met, is_word_at, matches_at, may_decide, meets, names_owner, same_plain}
+use Rattle.mx_rule.specs.Deciding.{some_below, some_upto, some_word}
 
 -- ---- by the form of a statement
 

@@ -1,13 +1,16 @@
 -- An edit that isn't refused makes of a ruleset one: part by part of what the rules of a kind have to be.
-use Rattle.std.proofs.Common.{◌≡◌, ℕ, Bool, true, false, not, cond, nat_le, ◌&&◌, ◌||◌, List, [], ◌∷◌, map, filter, inl, inr, refl, sym, ap, subst, ◌∙◌, arith}
+use Rattle.std.proofs.Common.{◌≡◌, ℕ, Bool, true, false, not, cond, nat_le, ◌&&◌, ◌||◌, List, [], ◌∷◌, map, filter, inl}
+use Rattle.std.proofs.Common.{inr, refl, sym, ap, subst, ◌∙◌, arith}
 use Rattle.std.specs.List.{list_all, list_any}
 use Rattle.std.specs.Str.{bytes_eq}
-use Rattle.std.proofs.lemmas.Bool.{and_from, and_parts, both_ways, cond_both, false_from_ne_true, le-leb, leb-true, not-false, not-true, or_cases, or_from, or_left, or_parts, or_right, true≢false}
+use Rattle.std.proofs.lemmas.Bool.{and_from, and_parts, both_ways, cond_both, false_from_ne_true, le-leb, leb-true}
+use Rattle.std.proofs.lemmas.Bool.{not-false, not-true, or_cases, or_from, or_left, or_parts, or_right, true≢false}
 use Rattle.std.proofs.lemmas.Slice.Eq.{bytes_eq-Decides}
 use Rattle.mx_json.specs.declared.value.Json.{Json}
 use Rattle.mx_rule.specs.declared.kind.Kind.{Kind}
 use Rattle.mx_rule.specs.declared.kind.Kind.TheVariants.{Override, Content, Room, Sender, Underride}
-use Rattle.mx_rule.specs.Editing.{has_id, is_own_with, put_after, put_before, put_first_own, put_over, with_actions, with_enabled, without}
+use Rattle.mx_rule.specs.Editing.{has_id, is_own_with, put_after, put_before, put_first_own, put_over, with_actions}
+use Rattle.mx_rule.specs.Editing.{with_enabled, without}
 use Rattle.mx_rule.specs.Rule.{PushRule}
 use Rattle.mx_rule.specs.Ruleset.{are_distinct, are_ranked, are_rules_of, fits, ids_of, is_master, is_own, rank_of}
 

@@ -15,10 +15,15 @@ use Rattle.mx_rule.specs.declared.edit.Part.{Part}
 use Rattle.mx_rule.specs.declared.kind.Kind.{Kind}
 use Rattle.mx_rule.specs.declared.kind.Kind.TheVariants.{Override, Content, Room, Sender, Underride}
 use Rattle.mx_json.specs.Path.{full_stop}
-use Rattle.mx_rule.specs.Editing.{criterion_of, edited, edited_kind, edited_list, flag_of, is_anchor, is_anchored, is_own_with, is_reserved, is_unfit, put_rule, refusal_of_edit, refusal_of_place, with_actions, with_enabled, with_list, with_put, without, wrong_part}
+use Rattle.mx_rule.specs.Editing.{criterion_of, edited, edited_kind, edited_list, flag_of, is_anchor, is_anchored}
+use Rattle.mx_rule.specs.Editing.{is_own_with, is_reserved, is_unfit, put_rule, refusal_of_edit, refusal_of_place}
+use Rattle.mx_rule.specs.Editing.{with_actions, with_enabled, with_list, with_put, without, wrong_part}
 use Rattle.mx_rule.specs.Rule.{PushRule}
 use Rattle.mx_rule.specs.Ruleset.{PushRuleset, are_rules_of, fits, is_master, rank_of, rules_of_kind, IsRuleset}
-use Rattle.mx_rule.proofs.EditLemmas.{are_rules_of-by, AreRules, AreRules-from, fresh-without, map-AreRules, named-Leaves, put_after-AreRules, put_before-AreRules, put_first-AreRules, put_over-AreRules, same-text, there-without, with_actions-Leaves, with_enabled-Leaves, without-AreRules}
+use Rattle.mx_rule.proofs.EditLemmas.{are_rules_of-by, AreRules, AreRules-from, fresh-without, map-AreRules}
+use Rattle.mx_rule.proofs.EditLemmas.{named-Leaves, put_after-AreRules, put_before-AreRules, put_first-AreRules}
+use Rattle.mx_rule.proofs.EditLemmas.{put_over-AreRules, same-text, there-without, with_actions-Leaves}
+use Rattle.mx_rule.proofs.EditLemmas.{with_enabled-Leaves, without-AreRules}
 
 -- ---- the rule that a put makes
 

@@ -1,5 +1,6 @@
 -- The first match among rules in order, part by part.
-use Rattle.std.proofs.Common.{◌≡◌, ℕ, ◌+◌, ◌<◌, ◌≤◌, length, get_or, drop, List, [], ◌∷◌, ◌++◌, Option, Some, None, inl, inr, refl, sym, subst}
+use Rattle.std.proofs.Common.{◌≡◌, ℕ, ◌+◌, ◌<◌, ◌≤◌, length, get_or, drop, List, [], ◌∷◌, ◌++◌, Option, Some, None, inl}
+use Rattle.std.proofs.Common.{inr, refl, sym, subst}
 use Rattle.std.proofs.lemmas.List.{at_drop_more, at_drop_all}
 use Rattle.std.specs.List.{flat_map}
 use Rattle.mx_cond.specs.Facts.{EventFacts}
@@ -35,13 +36,15 @@ module _ (facts : EventFacts) (kind : Kind) (rules : List PushRule) where
   abbrev pub IsFirstFrom : ℕ → Option RulePlace → Type 0
   IsFirstFrom k found = IsFirstMatch facts (placed_from kind k (drop k rules)) found
 
-  pub IsFirstFrom-passed : (i : ℕ) → (rule : PushRule) → i < length rules → rule ≡ get_or rules i rule → ¬ MayDecide rule facts
+  pub IsFirstFrom-passed : (i : ℕ) → (rule : PushRule) → i < length rules → rule ≡ get_or rules i rule
+      → ¬ MayDecide rule facts
       → (found : Option RulePlace) → IsFirstFrom (i + 1) found → IsFirstFrom i found
   IsFirstFrom-passed i rule within is not found later =
       let P : List Placed → Type 0 = λ xs. IsFirstMatch facts xs found in
       subst P (sym (at_drop_more (placed_from kind i) rules i rule within)) (rw (← is) (inr (not, later)))
 
-  pub IsFirstFrom-found : (i : ℕ) → (rule : PushRule) → i < length rules → rule ≡ get_or rules i rule → MayDecide rule facts
+  pub IsFirstFrom-found : (i : ℕ) → (rule : PushRule) → i < length rules → rule ≡ get_or rules i rule
+      → MayDecide rule facts
       → IsFirstFrom i (Some (record { kind = kind; index = i }))
   IsFirstFrom-found i rule within is may =
       let P : List Placed → Type 0 = λ xs. IsFirstMatch facts xs (Some (record { kind = kind; index = i })) in
@@ -64,7 +67,8 @@ module _ (facts : EventFacts) (rules_of : Kind → List Placed) (kinds : List Ki
   IsFirstOf-passed i d within none found later =
       let P : List Placed → Type 0 = λ xs. IsFirstMatch facts xs found in
       subst P (sym (at_drop_more (flat_map rules_of) kinds i d within))
-      (IsFirstMatch-passed facts (rules_of (get_or kinds i d)) (flat_map rules_of (drop (i + 1) kinds)) found none later)
+      (IsFirstMatch-passed facts (rules_of (get_or kinds i d))
+      (flat_map rules_of (drop (i + 1) kinds)) found none later)
 
   pub IsFirstOf-found : (i : ℕ) (d : Kind) → i < length kinds
       → (place : RulePlace) → IsFirstMatch facts (rules_of (get_or kinds i d)) (Some place) → IsFirstOf i (Some place)

@@ -1,5 +1,6 @@
 -- Rules by their ids: a new id goes last.
-use Rattle.std.proofs.Common.{◌≡◌, ℕ, Bool, true, false, not, List, [], ◌∷◌, ◌++◌, map, refl, ap, ◌∙◌, String, Global, string_bytes}
+use Rattle.std.proofs.Common.{◌≡◌, ℕ, Bool, true, false, not, List, [], ◌∷◌, ◌++◌, map, refl, ap, ◌∙◌, String, Global}
+use Rattle.std.proofs.Common.{string_bytes}
 use Rattle.std.specs.List.{list_any}
 use Rattle.std.specs.Str.{bytes_eq}
 use Rattle.std.specs.String.{string_eq}
@@ -29,7 +30,8 @@ pub distinct-new : (rules : List PushRule) (rule : PushRule) (later : List PushR
     → are_distinct (ids_of (rules ++ rule ∷ later)) ≡ true → list_any (bytes_eq rule.id) (ids_of rules) ≡ false
 distinct-new [] rule later distinct = refl
 distinct-new (first ∷ rules) rule later distinct =
-    let parts = and_parts (not (list_any (λ id. bytes_eq id first.id) (ids_of (rules ++ rule ∷ later)))) (are_distinct (ids_of (rules ++ rule ∷ later))) distinct in
+    let parts = and_parts (not (list_any (λ id. bytes_eq id first.id) (ids_of (rules ++ rule ∷ later))))
+    (are_distinct (ids_of (rules ++ rule ∷ later))) distinct in
     let apart = last-none (λ id. bytes_eq id first.id) rules rule later (not-true _ parts.0) in
     rw apart (distinct-new rules rule later parts.1)
 
@@ -39,10 +41,12 @@ pub insert_entry-new_id : (entries : List Entry) (id : String Global) (rule : Pu
     → insert_entry string_eq entries id rule ≡ entries ++ (id, rule) ∷ []
 insert_entry-new_id [] id rule new = refl
 insert_entry-new_id (first ∷ entries) id rule new =
-    let parts = or_parts (bytes_eq (string_bytes id) (string_bytes first.0)) (list_any (bytes_eq (string_bytes id)) (map string_bytes (keys_of entries))) new in
+    let parts = or_parts (bytes_eq (string_bytes id) (string_bytes first.0))
+    (list_any (bytes_eq (string_bytes id)) (map string_bytes (keys_of entries))) new in
     rw parts.0 (ap (λ es. first ∷ es) (insert_entry-new_id entries id rule parts.1))
 
-pub map-map : (entries : List Entry) → map (λ (e : Entry). string_bytes e.0) entries ≡ map string_bytes (keys_of entries)
+pub map-map : (entries : List Entry)
+    → map (λ (e : Entry). string_bytes e.0) entries ≡ map string_bytes (keys_of entries)
 map-map [] = refl
 map-map (first ∷ entries) = ap (λ ids. string_bytes first.0 ∷ ids) (map-map entries)
 
@@ -52,14 +56,16 @@ module _ (entries : List Entry) (id : String Global) (rule : PushRule) (is : str
   last = insert_entry-new_id entries id rule (rw is new)
 
   -- its id is the last
-  pub ids-last : map (λ (e : Entry). string_bytes e.0) (insert_entry string_eq entries id rule) ≡ map string_bytes (keys_of entries) ++ rule.id ∷ []
+  pub ids-last : map (λ (e : Entry). string_bytes e.0) (insert_entry string_eq entries id rule)
+      ≡ map string_bytes (keys_of entries) ++ rule.id ∷ []
   ids-last =
       ap (map (λ (e : Entry). string_bytes e.0)) last
       ∙ map-append (λ (e : Entry). string_bytes e.0) entries ((id, rule) ∷ [])
       ∙ (λ j. map-map entries j ++ is j ∷ [])
 
   -- and so is the rule
-  pub rules-last : map (λ (e : Entry). e.1) (insert_entry string_eq entries id rule) ≡ map (λ (e : Entry). e.1) entries ++ rule ∷ []
+  pub rules-last : map (λ (e : Entry). e.1) (insert_entry string_eq entries id rule)
+      ≡ map (λ (e : Entry). e.1) entries ++ rule ∷ []
   rules-last =
       ap (map (λ (e : Entry). e.1)) last
       ∙ map-append (λ (e : Entry). e.1) entries ((id, rule) ∷ [])

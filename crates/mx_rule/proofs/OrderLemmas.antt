@@ -4,13 +4,17 @@ use Rattle.std.specs.List.{list_all}
 use Rattle.std.proofs.lemmas.Bool.{and_parts}
 use Rattle.mx_rule.specs.declared.kind.Kind.{Kind}
 use Rattle.mx_rule.specs.Rule.{PushRule}
-use Rattle.mx_rule.specs.Ruleset.{Placed, are_distinct, are_ranked, are_rules_of, by_importance, fits, ids_of, is_given, is_master, is_own, placed_from, rank_of}
+use Rattle.mx_rule.specs.Ruleset.{Placed, are_distinct, are_ranked, are_rules_of, by_importance, fits, ids_of, is_given}
+use Rattle.mx_rule.specs.Ruleset.{is_master, is_own, placed_from, rank_of}
 
 -- which of the three parts a rule is in
 data Part (kind : Kind) (rule : PushRule) : Type 0 where
-  first : is_master kind rule ≡ true → is_own kind rule ≡ false → is_given kind rule ≡ false → rank_of kind rule ≡ 0 → Part kind rule
-  second : is_master kind rule ≡ false → is_own kind rule ≡ true → is_given kind rule ≡ false → rank_of kind rule ≡ 1 → Part kind rule
-  third : is_master kind rule ≡ false → is_own kind rule ≡ false → is_given kind rule ≡ true → rank_of kind rule ≡ 2 → Part kind rule
+  first : is_master kind rule ≡ true → is_own kind rule ≡ false → is_given kind rule ≡ false → rank_of kind rule ≡ 0
+      → Part kind rule
+  second : is_master kind rule ≡ false → is_own kind rule ≡ true → is_given kind rule ≡ false → rank_of kind rule ≡ 1
+      → Part kind rule
+  third : is_master kind rule ≡ false → is_own kind rule ≡ false → is_given kind rule ≡ true → rank_of kind rule ≡ 2
+      → Part kind rule
 
 part : (kind : Kind) (rule : PushRule) → Part kind rule
 part kind rule = by (is_master kind rule) rule.predefined refl refl
@@ -20,7 +24,8 @@ part kind rule = by (is_master kind rule) rule.predefined refl refl
     by false false e f = second e (rw (e, f) refl) (rw (e, f) refl) (rw (e, f) refl)
     by false true e f = third e (rw (e, f) refl) (rw (e, f) refl) (rw (e, f) refl)
 
-taken : (test : Placed → Bool) (x : Placed) (xs : List Placed) → test x ≡ true → filter test (x ∷ xs) ≡ x ∷ filter test xs
+taken : (test : Placed → Bool) (x : Placed) (xs : List Placed) → test x ≡ true
+    → filter test (x ∷ xs) ≡ x ∷ filter test xs
 taken test x xs passes = rw passes refl
 
 left : (test : Placed → Bool) (x : Placed) (xs : List Placed) → test x ≡ false → filter test (x ∷ xs) ≡ filter test xs
@@ -36,7 +41,8 @@ own kind i rules = filter (λ each. is_own kind each.rule) (placed_from kind i r
 abbrev from_rank : Kind → ℕ → List PushRule → Bool
 from_rank kind rank rules = list_all (λ later. nat_le rank (rank_of kind later)) rules
 
-masters-none : (kind : Kind) (i : ℕ) (rules : List PushRule) (rank : ℕ) → nat_le rank 0 ≡ false → from_rank kind rank rules ≡ true → masters kind i rules ≡ []
+masters-none : (kind : Kind) (i : ℕ) (rules : List PushRule) (rank : ℕ) → nat_le rank 0 ≡ false
+    → from_rank kind rank rules ≡ true → masters kind i rules ≡ []
 masters-none kind i [] rank above all = refl
 masters-none kind i (rule ∷ rules) rank above all =
     let parts = and_parts (nat_le rank (rank_of kind rule)) (from_rank kind rank rules) all in
@@ -65,7 +71,8 @@ own_test kind each = is_own kind each.rule
 abbrev given_test : Kind → Placed → Bool
 given_test kind each = is_given kind each.rule
 
-pub by_importance-ranked : (kind : Kind) (i : ℕ) (rules : List PushRule) → are_ranked kind rules ≡ true → by_importance kind (placed_from kind i rules) ≡ placed_from kind i rules
+pub by_importance-ranked : (kind : Kind) (i : ℕ) (rules : List PushRule) → are_ranked kind rules ≡ true
+    → by_importance kind (placed_from kind i rules) ≡ placed_from kind i rules
 by_importance-ranked kind i [] ranked = refl
 by_importance-ranked kind i (rule ∷ rules) ranked =
     let x : Placed = record { place = record { kind = kind; index = i }; rule = rule } in
@@ -94,7 +101,9 @@ by_importance-ranked kind i (rule ∷ rules) ranked =
     ]
 
 -- the rules of a kind stand in order of importance
-pub by_importance-placed : (kind : Kind) (rules : List PushRule) → are_rules_of kind rules ≡ true → by_importance kind (placed_from kind 0 rules) ≡ placed_from kind 0 rules
+pub by_importance-placed : (kind : Kind) (rules : List PushRule) → are_rules_of kind rules ≡ true
+    → by_importance kind (placed_from kind 0 rules) ≡ placed_from kind 0 rules
 by_importance-placed kind rules are =
-    let parts = and_parts (list_all (λ rule. fits kind rule.criterion) rules) (are_ranked kind rules && are_distinct (ids_of rules)) are in
+    let parts = and_parts (list_all (λ rule. fits kind rule.criterion) rules)
+    (are_ranked kind rules && are_distinct (ids_of rules)) are in
     by_importance-ranked kind 0 rules (and_parts (are_ranked kind rules) (are_distinct (ids_of rules)) parts.1).0

@@ -1,5 +1,6 @@
 -- The text of a rule, part by part.
-use Rattle.std.proofs.Common.{◌≡◌, ℕ, ◌+◌, ◌<◌, ◌≤◌, Bool, true, false, List, [], ◌∷◌, ◌++◌, map, length, drop, get_or, codes, refl, sym, ap, ◌∙◌, append_assoc, rules}
+use Rattle.std.proofs.Common.{◌≡◌, ℕ, ◌+◌, ◌<◌, ◌≤◌, Bool, true, false, List, [], ◌∷◌, ◌++◌, map, length, drop, get_or}
+use Rattle.std.proofs.Common.{codes, refl, sym, ap, ◌∙◌, append_assoc, rules}
 use Rattle.std.proofs.lemmas.List.{at_drop_more, at_drop_all, append-nil}
 use Rattle.std.specs.List.{join_with_byte}
 use Rattle.json.specs.Print.{escape_byte}
@@ -16,18 +17,22 @@ use Rattle.mx_rule.specs.Printed.{printed_rules, rule_object, rules_list}
 
 -- ---- the texts of a list, one after another
 
-joined : (item : Json) (items : List Json) → join_with_byte comma (map canonical (item ∷ items)) ≡ canonical item ++ separated (codes ",") items
+joined : (item : Json) (items : List Json)
+    → join_with_byte comma (map canonical (item ∷ items)) ≡ canonical item ++ separated (codes ",") items
 joined item [] = sym (append-nil (canonical item))
 joined item (next ∷ items) = ap (λ text. canonical item ++ comma ∷ text) (joined next items)
 
-pub canonical-separated : (items : List Json) → canonical (ListOf record { items = items }) ≡ codes "[" ++ (separated [] items ++ codes "]")
+pub canonical-separated : (items : List Json)
+    → canonical (ListOf record { items = items }) ≡ codes "[" ++ (separated [] items ++ codes "]")
 canonical-separated [] = canonical-List record { items = [] }
 canonical-separated (item ∷ items) =
     canonical-List record { items = item ∷ items } ∙ ap (λ text. codes "[" ++ (text ++ codes "]")) (joined item items)
 
 -- one more text of a list
-pub separated-more : (out separator : List ℕ) (items : List Json) (i : ℕ) (item : Json) → i < length items → item ≡ get_or items i item
-    → ((out ++ separator) ++ canonical item) ++ separated (codes ",") (drop (i + 1) items) ≡ out ++ separated separator (drop i items)
+pub separated-more : (out separator : List ℕ) (items : List Json) (i : ℕ) (item : Json) → i < length items
+    → item ≡ get_or items i item
+    → ((out ++ separator) ++ canonical item) ++ separated (codes ",") (drop (i + 1) items)
+    ≡ out ++ separated separator (drop i items)
 separated-more out separator items i item within is =
     let rest = separated (codes ",") (drop (i + 1) items) in
     append_assoc (out ++ separator) (canonical item) rest
@@ -87,7 +92,8 @@ pairs_after rule =
     ++ ((codes "rule_id", Text rule.id) ∷ [])))
 
 rest-written : (id : List ℕ) (predefined enabled : Bool) (actions : List Json) (criterion : Criterion)
-    → let rule : PushRule = record { id = id; predefined = predefined; enabled = enabled; actions = actions; criterion = criterion } in
+    → let rule : PushRule =
+    record { id = id; predefined = predefined; enabled = enabled; actions = actions; criterion = criterion } in
     object_rest (map (with_value canonical) (pairs_after rule)) ≡ rest_of rule
 unfolding escape_byte
 rest-written id predefined enabled actions (Conditions conditions) = refl
@@ -95,7 +101,8 @@ rest-written id predefined enabled actions (Word pattern) = refl
 rest-written id predefined enabled actions InRoom = refl
 rest-written id predefined enabled actions FromSender = refl
 
-pub printed-parts : (rule : PushRule) → printed rule ≡ codes "{\"actions\":" ++ (canonical (ListOf record { items = rule.actions }) ++ rest_of rule)
+pub printed-parts : (rule : PushRule)
+    → printed rule ≡ codes "{\"actions\":" ++ (canonical (ListOf record { items = rule.actions }) ++ rest_of rule)
 unfolding escape_byte printed
 printed-parts rule =
     object-written (codes "actions", ListOf record { items = rule.actions }) (pairs_after rule)
@@ -116,10 +123,12 @@ printed-assembled before rule =
     let a = canonical (ListOf record { items = rule.actions }) in
     let d = codes ",\"default\":" ++ canonical (Truth rule.predefined) in
     let e = codes ",\"enabled\":" ++ canonical (Truth rule.enabled) in
-    nine before (codes "{\"actions\":") a (conditions_text rule.criterion) d e (pattern_text rule.criterion) (codes ",\"rule_id\":") (canonical (Text rule.id)) (codes "}")
+    nine before (codes "{\"actions\":") a (conditions_text rule.criterion) d e (pattern_text rule.criterion)
+    (codes ",\"rule_id\":") (canonical (Text rule.id)) (codes "}")
     ∙ ap (λ text. before ++ text) (sym (printed-parts rule))
   where
-    nine : (o k a c d e p r i z : List ℕ) → ((((((((o ++ k) ++ a) ++ c) ++ d) ++ e) ++ p) ++ r) ++ i) ++ z ≡ o ++ (k ++ (a ++ (c ++ (d ++ (e ++ (p ++ (r ++ (i ++ z))))))))
+    nine : (o k a c d e p r i z : List ℕ) → ((((((((o ++ k) ++ a) ++ c) ++ d) ++ e) ++ p) ++ r) ++ i) ++ z
+        ≡ o ++ (k ++ (a ++ (c ++ (d ++ (e ++ (p ++ (r ++ (i ++ z))))))))
     nine o k a c d e p r i z = simp append_assoc
 
 -- ---- the rules of a user

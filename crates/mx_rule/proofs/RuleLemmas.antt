@@ -14,7 +14,8 @@ pub MayDecide-met : {E : Type 0} (rule : PushRule) (facts : EventFacts) (result 
     → IfOk result (λ met. IsTrue met ↔ Meets rule.criterion rule.id facts)
     → IfOk result (λ may. IsTrue may ↔ MayDecide rule facts)
 MayDecide-met rule facts result enabled tried met =
-    IfOk-weaker result (λ met. IsTrue met ↔ Meets rule.criterion rule.id facts) (λ may. IsTrue may ↔ MayDecide rule facts)
+    IfOk-weaker result (λ met. IsTrue met ↔ Meets rule.criterion rule.id facts)
+    (λ may. IsTrue may ↔ MayDecide rule facts)
     (λ b h. (λ t. (enabled, (tried, h.0 t)), λ may. h.1 may.1.1)) met
 
 -- an answer that is true exactly where the rule may decide is what the test gives

@@ -1,5 +1,7 @@
--- What the actions of a push rule mean: the Client-Server API v1.11, "Actions"; what other texts, other tweaks and repeated tweaks do is ours.
-use Rattle.std.specs.Prelude.{ℕ, Bool, true, false, if◌then◌else◌, List, [], ◌∷◌, map, codes, Option, Some, None, unwrap_or}
+-- What the actions of a push rule mean: the Client-Server API v1.11, "Actions";
+-- what other texts, other tweaks and repeated tweaks do is ours.
+use Rattle.std.specs.Prelude.{ℕ, Bool, true, false, if◌then◌else◌, List, [], ◌∷◌, map, codes, Option, Some, None}
+use Rattle.std.specs.Prelude.{unwrap_or}
 use Rattle.std.specs.List.{list_any}
 use Rattle.std.specs.Option.{option_map_or, option_or}
 use Rattle.std.specs.Str.{bytes_eq}
@@ -74,7 +76,8 @@ sound_of actions = unwrap_or (last_said sound_in actions) None
 
 -- what these actions say together of an event
 abbrev pub meaning_of : List Action → Verdict
-meaning_of actions = record { notify = says_notify actions; highlight = says_highlight actions; sound = sound_of actions }
+meaning_of actions =
+    record { notify = says_notify actions; highlight = says_highlight actions; sound = sound_of actions }
 
 -- what a rule with these actions says of an event for which it decides
 abbrev pub verdict_of : List Json → Verdict

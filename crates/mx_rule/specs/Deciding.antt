@@ -1,5 +1,8 @@
--- Whether a rule may decide for an event, as a test: `true` exactly where `MayDecide` holds, so that events can be filtered by it.
-use Rattle.std.specs.Prelude.{ℕ, zero, suc, nat_le, nat_lt, ◌==◌, int_le, Bool, true, false, not, ◌&&◌, ◌||◌, if◌then◌else◌, List, [], ◌∷◌, drop, length, Option, option_and_then, slice_get, slice_range}
+-- Whether a rule may decide for an event, as a test: `true` exactly where `MayDecide` holds,
+-- so that events can be filtered by it.
+use Rattle.std.specs.Prelude.{ℕ, zero, suc, nat_le, nat_lt, ◌==◌, int_le, Bool, true, false, not, ◌&&◌, ◌||◌}
+use Rattle.std.specs.Prelude.{if◌then◌else◌, List, [], ◌∷◌, drop, length, Option, option_and_then, slice_get}
+use Rattle.std.specs.Prelude.{slice_range}
 use Rattle.std.specs.Bool.{beq}
 use Rattle.std.specs.List.{list_all, list_any}
 use Rattle.std.specs.Option.{option_map_or}
@@ -17,7 +20,9 @@ use Rattle.mx_cond.specs.declared.count.Comparison.TheVariants.{Equal, Below, Ab
 use Rattle.mx_cond.specs.declared.plain.Plain.{Plain}
 use Rattle.mx_cond.specs.declared.plain.Plain.TheVariants.{Null, Truth, Whole, Text}
 use Rattle.mx_cond.specs.declared.wanted.Wanted.{Wanted}
-use Rattle.mx_cond.specs.declared.wanted.Wanted.TheVariants.{EventMatch, EventPropertyIs, EventPropertyContains, RoomMemberCount, SenderNotificationPermission, ContainsDisplayName, Unknown}
+use Rattle.mx_cond.specs.declared.wanted.Wanted.TheVariants.{EventMatch, EventPropertyIs, EventPropertyContains}
+use Rattle.mx_cond.specs.declared.wanted.Wanted.TheVariants.{RoomMemberCount, SenderNotificationPermission}
+use Rattle.mx_cond.specs.declared.wanted.Wanted.TheVariants.{ContainsDisplayName, Unknown}
 use Rattle.mx_cond.specs.Condition.{plain_of, wanted_by}
 use Rattle.mx_cond.specs.Facts.{EventFacts}
 use Rattle.mx_cond.specs.Holds.{body_path, is_body, members_of}

@@ -1,5 +1,8 @@
--- What a user's edit makes of the push rules, and when it is refused: the Client-Server API v1.11, "Push rules: API"; the limits, the order of the refusals and the place of a rule without anchor are ours.
-use Rattle.std.specs.Prelude.{ℕ, zero, suc, nat_le, nat_lt, Bool, true, false, not, ◌&&◌, ◌||◌, if◌then◌else◌, List, [], ◌∷◌, length, map, filter, sum_by, find, remove, codes, Option, Some, None, is_some, unwrap_or}
+-- What a user's edit makes of the push rules, and when it is refused: the Client-Server API v1.11, "Push rules: API";
+-- the limits, the order of the refusals and the place of a rule without anchor are ours.
+use Rattle.std.specs.Prelude.{ℕ, zero, suc, nat_le, nat_lt, Bool, true, false, not, ◌&&◌, ◌||◌, if◌then◌else◌, List, []}
+use Rattle.std.specs.Prelude.{◌∷◌, length, map, filter, sum_by, find, remove, codes, Option, Some, None, is_some}
+use Rattle.std.specs.Prelude.{unwrap_or}
 use Rattle.std.specs.List.{list_all, list_any}
 use Rattle.std.specs.Option.{option_map_or}
 use Rattle.std.specs.Str.{bytes_eq}
@@ -14,7 +17,8 @@ use Rattle.mx_rule.specs.declared.criterion.Criterion.TheVariants.{Conditions, W
 use Rattle.mx_rule.specs.declared.edit.Edit.{Edit}
 use Rattle.mx_rule.specs.declared.edit.Edit.TheVariants.{Put, Delete, Enable, SetActions}
 use Rattle.mx_rule.specs.declared.edit.EditRefusal.{EditRefusal}
-use Rattle.mx_rule.specs.declared.edit.EditRefusal.TheVariants.{RuleReserved, BadRule, RuleUnknown, AnchorUnknown, RulesFull}
+use Rattle.mx_rule.specs.declared.edit.EditRefusal.TheVariants.{RuleReserved, BadRule, RuleUnknown, AnchorUnknown}
+use Rattle.mx_rule.specs.declared.edit.EditRefusal.TheVariants.{RulesFull}
 use Rattle.mx_rule.specs.declared.edit.Part.{Part}
 use Rattle.mx_rule.specs.declared.edit.Part.TheVariants as part
 use Rattle.mx_rule.specs.declared.kind.Kind.{Kind}

@@ -114,7 +114,8 @@ override_table owner =
     ∷ given_rule (codes ".m.rule.suppress_notices")
     (event_match (codes "content.msgtype") (codes "m.notice") ∷ []) silence
     ∷ given_rule (codes ".m.rule.invite_for_me")
-    (has_type (codes "m.room.member") ∷ event_match (codes "content.membership") (codes "invite") ∷ has_state_key owner ∷ []) notice_with_sound
+    (has_type (codes "m.room.member") ∷ event_match (codes "content.membership") (codes "invite") ∷ has_state_key owner
+    ∷ []) notice_with_sound
     ∷ given_rule (codes ".m.rule.member_event")
     (has_type (codes "m.room.member") ∷ []) silence
     ∷ given_rule (codes ".m.rule.is_user_mention")

@@ -1,5 +1,6 @@
 -- What a push rule is, and which events it matches: the Client-Server API v1.11, "Push rules".
-use Rattle.std.specs.Prelude.{◌≡◌, ℕ, nat_lt, Bool, false, ◌&&◌, ◌||◌, if◌then◌else◌, List, [], length, codes, Option, Some, None, Result, Ok, Err, IsTrue, All}
+use Rattle.std.specs.Prelude.{◌≡◌, ℕ, nat_lt, Bool, false, ◌&&◌, ◌||◌, if◌then◌else◌, List, [], length, codes, Option}
+use Rattle.std.specs.Prelude.{Some, None, Result, Ok, Err, IsTrue, All}
 use Rattle.std.specs.Str.{bytes_eq}
 use Rattle.mx_json.specs.declared.value.Json.{Json}
 use Rattle.mx_json.specs.Folded.{folded}

@@ -1,5 +1,7 @@
--- The push rules of a user, in order of importance, and which of them decides: the Client-Server API v1.11, "Push rules"; where user rules stand among predefined ones is ours.
-use Rattle.std.specs.Prelude.{◌≡◌, ℕ, ◌+◌, nat_le, Bool, true, false, not, ◌&&◌, if◌then◌else◌, List, [], ◌∷◌, ◌++◌, map, filter, count_by, codes, Option, Some, None, ◌⊎◌}
+-- The push rules of a user, in order of importance, and which of them decides:
+-- the Client-Server API v1.11, "Push rules"; where user rules stand among predefined ones is ours.
+use Rattle.std.specs.Prelude.{◌≡◌, ℕ, ◌+◌, nat_le, Bool, true, false, not, ◌&&◌, if◌then◌else◌, List, [], ◌∷◌, ◌++◌}
+use Rattle.std.specs.Prelude.{map, filter, count_by, codes, Option, Some, None, ◌⊎◌}
 use Rattle.std.specs.List.{flat_map, list_all, list_any}
 use Rattle.std.specs.Str.{bytes_eq}
 use Rattle.mx_cond.specs.Facts.{EventFacts}

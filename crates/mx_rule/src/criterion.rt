@@ -95,7 +95,8 @@ fn all_hold(
     scratch: &mut Scratch,
 ) -> Result<bool, OutOfMemory>
     ensures { IfOk result
-        (λ hold. IsTrue hold ↔ All (λ condition. Holds condition (told_by facts.now)) conditions.now) }
+        (λ hold. IsTrue hold
+        ↔ All (λ condition. Holds condition (told_by facts.now)) conditions.now) }
 {
     for condition in conditions {
         if !condition.holds(alloc, facts, scratch)? {

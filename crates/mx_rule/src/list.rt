@@ -1,8 +1,10 @@
-ghost use Rattle.std.specs.Prelude.{◌≡◌, ◌<◌, true, false, [], ◌∷◌, ◌++◌, length, map, position, remove, string_bytes, IfOk, IfSome, OnOk};
+ghost use Rattle.std.specs.Prelude.{◌≡◌, ◌<◌, true, false, [], ◌∷◌, ◌++◌, length, map, position};
+ghost use Rattle.std.specs.Prelude.{remove, string_bytes, IfOk, IfSome, OnOk};
 ghost use Rattle.std.specs.List.{list_any};
 ghost use Rattle.std.specs.Str.{bytes_eq};
 ghost use Rattle.indexmap.specs.IndexMap.{keys, values};
-ghost use Rattle.mx_rule.specs.Editing.{list_changed, changed_at, has_id, with_actions, with_enabled};
+ghost use Rattle.mx_rule.specs.Editing.{list_changed, changed_at, has_id, with_actions};
+ghost use Rattle.mx_rule.specs.Editing.{with_enabled};
 ghost use Rattle.mx_rule.specs.Ruleset.{are_distinct, ids_of, own_among};
 
 use crate::actions::Actions;

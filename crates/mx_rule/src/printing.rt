@@ -3,7 +3,8 @@ ghost use Rattle.std.specs.List.{list_all};
 ghost use Rattle.mx_json.specs.Canonical.{canonical};
 ghost use Rattle.mx_json.specs.Json.{is_valid};
 ghost use Rattle.mx_json.specs.declared.value.Json.{List as ListOf, Text, Truth};
-ghost use Rattle.mx_rule.specs.Printed.{conditions_text, rules_list, pattern_text, printed, printed_rules};
+ghost use Rattle.mx_rule.specs.Printed.{conditions_text, rules_list, pattern_text, printed};
+ghost use Rattle.mx_rule.specs.Printed.{printed_rules};
 
 use crate::criterion::Criterion;
 use crate::kind::Kind;

@@ -6,7 +6,8 @@ ghost use Rattle.mx_cond.specs.Facts.{told_by};
 ghost use Rattle.mx_rule.specs.Actions.{action_of, verdict_of};
 ghost use Rattle.mx_rule.specs.Deciding.{may_decide};
 ghost use Rattle.mx_rule.specs.Editing.{with_actions, with_enabled};
-ghost use Rattle.mx_rule.specs.Rule.{conditions_of, is_passed_over, looks_for_mention, pattern_of, MayDecide};
+ghost use Rattle.mx_rule.specs.Rule.{conditions_of, is_passed_over, looks_for_mention, pattern_of};
+ghost use Rattle.mx_rule.specs.Rule.{MayDecide};
 ghost use Rattle.mx_rule.specs.Ruleset.{is_master, is_own};
 
 use crate::action::Action;
@@ -29,7 +30,8 @@ pub struct Rule {
     enabled: bool,
     actions: Actions,
     criterion: Criterion,
-    // Whether the id is that of a rule which isn't evaluated for an event that says whom it mentions.
+    // Whether the id is that of a rule which isn't evaluated for an event that
+    // says whom it mentions.
     looks_for_mention: bool,
 }
 

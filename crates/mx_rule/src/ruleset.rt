@@ -2,7 +2,8 @@ ghost use Rattle.std.specs.Prelude.{◌≡◌, ◌<◌, true, length, position, 
 ghost use Rattle.std.specs.Option.{option_copied};
 ghost use Rattle.mx_cond.specs.Facts.{told_by};
 ghost use Rattle.mx_rule.specs.Editing.{list_changed, has_id, with_list};
-ghost use Rattle.mx_rule.specs.Ruleset.{are_rules_of, by_importance, flat, own_among, placed, rules_of_kind, IsFirstMatch};
+ghost use Rattle.mx_rule.specs.Ruleset.{are_rules_of, by_importance, flat, own_among, placed};
+ghost use Rattle.mx_rule.specs.Ruleset.{rules_of_kind, IsFirstMatch};
 
 use crate::kind::{Kind, RulePlace};
 use crate::list::RuleList;

@@ -1,6 +1,7 @@
 ghost use Rattle.std.specs.Prelude.{◌≡◌, option_map, IfOk};
 ghost use Rattle.std.specs.Option.{option_copied};
-ghost use Rattle.mx_rule.specs.Actions.{highlight_in, says_highlight, says_notify, sound_in, sound_of, meaning_of};
+ghost use Rattle.mx_rule.specs.Actions.{highlight_in, says_highlight, says_notify, sound_in};
+ghost use Rattle.mx_rule.specs.Actions.{sound_of, meaning_of};
 
 use crate::action::Action;
 use mx_json::{JsonText, OutOfMemory};

@@ -1,5 +1,6 @@
 -- How the payloads of valid histories name their entries.
-use Rattle.std.proofs.Common.{◌≡◌, ◌≢◌, ℕ, ◌<◌, ◌≤◌, Bool, true, false, ◌||◌, List, [], ◌∷◌, ◌++◌, length, map, Option, None, Some, Result, Ok, cond, nat_lt, inl, inr, refl, sym, ap, subst, ◌∙◌, arith, rules}
+use Rattle.std.proofs.Common.{◌≡◌, ◌≢◌, ℕ, ◌<◌, ◌≤◌, Bool, true, false, ◌||◌, List, [], ◌∷◌, ◌++◌, length, map, Option}
+use Rattle.std.proofs.Common.{None, Some, Result, Ok, cond, nat_lt, inl, inr, refl, sym, ap, subst, ◌∙◌, arith, rules}
 use Rattle.std.specs.List.{All}
 use Rattle.std.specs.Option.{option_or}
 use Rattle.std.proofs.lemmas.Bool.Decides.{nat_tests}
@@ -19,14 +20,16 @@ use Rattle.mx_records.specs.Entries.{payload_of}
 use Rattle.mx_records.specs.Forms.{input_in}
 use Rattle.mx_records.specs.History.{History, additions_after, with_entry, with_input}
 use Rattle.mx_records.specs.Normal.{normal_of, IsNormal}
-use Rattle.mx_records.specs.Refusing.{IsAcceptable, IsAcceptableInput, IsValid, deepest_input, is_full, is_too_long, longest_payload, payloads_of, refusal_of, refusal_of_content}
+use Rattle.mx_records.specs.Refusing.{IsAcceptable, IsAcceptableInput, IsValid, deepest_input, is_full, is_too_long}
+use Rattle.mx_records.specs.Refusing.{longest_payload, payloads_of, refusal_of, refusal_of_content}
 use Rattle.mx_json.specs.Json.{depth_of}
 use Rattle.mx_records.specs.Snapshot.{Snapshot, snapshot_of}
 use Rattle.mx_records.specs.declared.refusal.Refusal.{Refusal}
 use Rattle.mx_records.specs.declared.refusal.Refusal.TheVariants.{EntryTooLong, Full}
 use Rattle.mx_store.specs.Standing.{IsNoNextPayload, StandsForEitherHistory}
 use Rattle.mx_store.specs.Store.{Knows}
-use Rattle.mx_records.proofs.ValidLemmas.{IsAcceptableThere, IsValid-none, IsValid-push, payloads_of-none, payloads_of-push, valid-next}
+use Rattle.mx_records.proofs.ValidLemmas.{IsAcceptableThere, IsValid-none, IsValid-push, payloads_of-none}
+use Rattle.mx_records.proofs.ValidLemmas.{payloads_of-push, valid-next}
 
 -- An input has a payload of its own.
 pub same_payload : (a b : Input) → IsNormal a → IsNormal b
@@ -83,7 +86,8 @@ same_entries server before (b ∷ bs) (c ∷ cs) valid vb vc same =
     let tails : payloads_of bs ≡ payloads_of cs = cc in
     let rest = same_entries server (with_entry before b) bs cs (IsValid-push server before b valid first)
     (rest_valid server before b bs vb)
-    (subst (λ (e : Entry). AreValidAfter server (with_entry before e) cs) (sym one) (rest_valid server before c cs vc)) tails in
+    (subst (λ (e : Entry). AreValidAfter server (with_entry before e) cs) (sym one) (rest_valid server before c cs vc))
+    tails in
     cc (one, rest)
 
 -- Where the payloads of one valid history begin with those of another, the next one is that of an entry
@@ -95,8 +99,11 @@ pub next_entry : (server : List ℕ) (before bs cs : List Entry) (payload : List
 unfolding payloads_of
 next_entry server before [] [] payload more valid vb vc same = absurd cc
 next_entry server before [] (c ∷ cs) payload more valid vb vc same =
-    let heads : payload ≡ payload_of c = cc in
-    (c, subst (λ (h : History). IsAcceptable server h c) (sym (append-nil before)) (first_valid server before c cs vc), heads)
+    let heads : payload ≡ payload_of c = cc in (
+      c,
+      subst (λ (h : History). IsAcceptable server h c) (sym (append-nil before)) (first_valid server before c cs vc),
+      heads,
+    )
 next_entry server before (b ∷ bs) [] payload more valid vb vc same = absurd cc
 next_entry server before (b ∷ bs) (c ∷ cs) payload more valid vb vc same =
     let heads : payload_of b ≡ payload_of c = cc in
@@ -105,7 +112,8 @@ next_entry server before (b ∷ bs) (c ∷ cs) payload more valid vb vc same =
     let tails : payloads_of cs ≡ payloads_of bs ++ payload ∷ more = cc in
     let next = next_entry server (with_entry before b) bs cs payload more (IsValid-push server before b valid first)
     (rest_valid server before b bs vb)
-    (subst (λ (e : Entry). AreValidAfter server (with_entry before e) cs) (sym one) (rest_valid server before c cs vc)) tails in
+    (subst (λ (e : Entry). AreValidAfter server (with_entry before e) cs) (sym one) (rest_valid server before c cs vc))
+    tails in
     (next.0, subst (λ (h : History). IsAcceptable server h next.0) (append_assoc before (b ∷ []) bs) next.1, next.2)
 
 pub same_histories : (server : List ℕ) (g h : History) → IsValid server g → IsValid server h

@@ -1,18 +1,22 @@
 -- An image stands for one history at most, or it has one first fault.
-use Rattle.std.proofs.Common.{◌≡◌, ◌≢◌, ◌⊎◌, inl, inr, ⊎_elim, ℕ, ◌<◌, ◌≤◌, List, [], ◌∷◌, ◌++◌, length, take, refl, sym, ap, subst, ◌∙◌, arith}
+use Rattle.std.proofs.Common.{◌≡◌, ◌≢◌, ◌⊎◌, inl, inr, ⊎_elim, ℕ, ◌<◌, ◌≤◌, List, [], ◌∷◌, ◌++◌, length, take, refl}
+use Rattle.std.proofs.Common.{sym, ap, subst, ◌∙◌, arith}
 use Rattle.std.proofs.lemmas.List.{append-nil, append_assoc, append_cancel_left}
-use Rattle.mx_journal.specs.Image.{header, open_gate, IsPayload, ArePayloads, body_of, records_of, front_of, IsJournalOf, StandsForPayloads}
+use Rattle.mx_journal.specs.Image.{header, open_gate, IsPayload, ArePayloads, body_of, records_of, front_of}
+use Rattle.mx_journal.specs.Image.{IsJournalOf, StandsForPayloads}
 use Rattle.mx_journal.specs.Fault.{IsFaultyGate, LacksHeader}
 use Rattle.mx_journal.specs.NextRecord.{BeginsWith}
 use Rattle.mx_journal.proofs.Bytes.{same_body}
 use Rattle.mx_journal.proofs.Crash.{front_of-push, ArePayloads-push}
-use Rattle.mx_journal.proofs.Images.{HasNoRecord-faulty, fault_stands_for_none, front_begins, header_first, stands_for_one}
+use Rattle.mx_journal.proofs.Images.{HasNoRecord-faulty, fault_stands_for_none, front_begins, header_first}
+use Rattle.mx_journal.proofs.Images.{stands_for_one}
 use Rattle.mx_records.specs.declared.entry.Entry.{Entry}
 use Rattle.mx_records.specs.History.{History, with_entry}
 use Rattle.mx_records.specs.Refusing.{IsValid, payloads_of}
 use Rattle.mx_records.proofs.ValidLemmas.{IsValid-none, IsValid-push}
 use Rattle.mx_store.specs.Standing.{HasBadRecord, HasFaultBehind, HasFirstFaultAt, StandsFor}
-use Rattle.mx_store.proofs.Histories.{AreValidAfter, entry_fits, first_valid, next_of_history, payload_some, rest_valid, same_histories}
+use Rattle.mx_store.proofs.Histories.{AreValidAfter, entry_fits, first_valid, next_of_history, payload_some, rest_valid}
+use Rattle.mx_store.proofs.Histories.{same_histories}
 
 fit_payloads : (server : List ℕ) (before entries : List Entry) → IsValid server before
     → AreValidAfter server before entries → ArePayloads (payloads_of entries)
@@ -58,7 +62,8 @@ bad_stands_for_none server image behind before h long valid is bad stands (inr j
 pub no_history : (server image : List ℕ) (offset : ℕ) (h : History) → HasFirstFaultAt server image offset
     → StandsFor server image h → ⊥
 no_history server image offset h fault stands =
-    ⊎_elim (λ (lacks : LacksHeader image offset). fault_stands_for_none image offset (payloads_of h) (fault.0, inl lacks) stands.payloads)
+    ⊎_elim (λ (lacks : LacksHeader image offset).
+    fault_stands_for_none image offset (payloads_of h) (fault.0, inl lacks) stands.payloads)
     (λ (at : HasFaultBehind server image offset).
     ⊎_elim (λ (gate : IsFaultyGate at.behind). fault_stands_for_none image offset (payloads_of h) (
       fault.0,
@@ -151,7 +156,8 @@ pub one_fault : (server image : List ℕ) (a b : ℕ) → HasFirstFaultAt server
 one_fault server image a b first second =
     ⊎_elim (λ (x : LacksHeader image a).
     ⊎_elim (λ (y : LacksHeader image b). x.first ∙ sym y.first)
-    (λ (y : HasFaultBehind server image b). absurd (x.differs (header_first image (payloads_of y.before) y.behind y.is)))
+    (λ (y : HasFaultBehind server image b).
+    absurd (x.differs (header_first image (payloads_of y.before) y.behind y.is)))
     second.1)
     (λ (x : HasFaultBehind server image a).
     ⊎_elim (λ (y : LacksHeader image b). absurd (y.differs (header_first image (payloads_of x.before) x.behind x.is)))

@@ -23,7 +23,8 @@ valid_list key fields list valid is =
 pub valid_input : (input : Input) → IsNormal input → is_valid_input input ≡ true
 valid_input (Event event) normal = refl
 valid_input (Edit user (Put kind id pattern None actions before after)) normal =
-    valid_list (codes "actions") (fields_given (Edit user (Put kind id pattern None actions before after))) actions normal.valid refl
+    valid_list (codes "actions")
+    (fields_given (Edit user (Put kind id pattern None actions before after))) actions normal.valid refl
 valid_input (Edit user (Put kind id pattern (Some conditions) actions before after)) normal =
     let fields = fields_given (Edit user (Put kind id pattern (Some conditions) actions before after)) in
     and_from _ _ (valid_list (codes "conditions") fields conditions normal.valid refl)

@@ -1,5 +1,6 @@
 -- What opening a store comes to.
-use Rattle.std.proofs.Common.{◌≡◌, ⊎_elim, inl, inr, ℕ, ◌<◌, ◌≤◌, List, [], Option, Some, IfSome, length, refl, sym, ap, subst, ◌∙◌, arith}
+use Rattle.std.proofs.Common.{◌≡◌, ⊎_elim, inl, inr, ℕ, ◌<◌, ◌≤◌, List, [], Option, Some, IfSome, length, refl, sym, ap}
+use Rattle.std.proofs.Common.{subst, ◌∙◌, arith}
 use Rattle.std.proofs.lemmas.Bool.{cases_lt}
 use Rattle.mx_outside.specs.Disk.{LeavesOnly, Only}
 use Rattle.mx_journal.specs.Image.{empty_journal, StandsForPayloads}
@@ -93,7 +94,8 @@ pub moments_named : {D : Type 0} {moment : D → ℕ} {left_since : D → ℕ �
     (server name content : List ℕ) (h : History) → server ≡ name
     → (StandsFor server content h → LeavesOnly moment left_since old new (λ image. StandsFor server image h))
     → StandsFor name content h → LeavesOnly moment left_since old new (λ image. StandsFor name image h)
-moments_named {moment = moment} {left_since = left_since} {old = old} {new = new} server name content h same leaves stands =
+moments_named {moment = moment} {left_since = left_since} {old = old} {new = new} server name content h same
+    leaves stands =
     subst (λ (s : List ℕ). LeavesOnly moment left_since old new (λ image. StandsFor s image h)) same
     (leaves (subst (λ (s : List ℕ). StandsFor s content h) (sym same) stands))
 
@@ -128,7 +130,8 @@ module _ {D : Type 0} (seen : D → Option (List ℕ)) (may_leave : D → List �
       let is = the_history content h told stands in
       record {
         knows = subst (λ (g : History). Knows server shown g) is all.1.knows;
-        rests = subst (λ (g : History). Rests seen may_leave journal (payloads_of g)) is (all.1.rests content told only);
+        rests =
+            subst (λ (g : History). Rests seen may_leave journal (payloads_of g)) is (all.1.rests content told only);
       }
 
   pub opened_tally : (content : List ℕ) → seen disk ≡ Some content

@@ -29,8 +29,10 @@ bad_error error offset entry bad (inr is) = cc
 pub no_payload : (server : List ℕ) (h : History) (payload : List ℕ) (error : EntryError) (offset : ℕ) → IsValid server h
     → error ≡ BadEntry offset → Decodes payload error → IsNoNextPayload server h payload
 no_payload server h payload error offset valid is one =
-    no_next_payload server h payload valid (λ (input : Input) (next : IsAcceptableInput server h input) (same : payload ≡ payload_of (InputEntry input)).
-    bad_error error offset (InputEntry input) is (one (InputEntry input) (record { entry_is = next.normal; payload = same })))
+    no_next_payload server h payload valid
+    (λ (input : Input) (next : IsAcceptableInput server h input) (same : payload ≡ payload_of (InputEntry input)).
+    bad_error error offset (InputEntry input) is
+    (one (InputEntry input) (record { entry_is = next.normal; payload = same })))
 
 -- what decoding gives is this entry
 abbrev Gave : List ℕ → Entry → Type 0
@@ -41,7 +43,8 @@ pub no_built_payload : (server : List ℕ) (h : History) (payload : List ℕ) (e
     → ((input : Input) → IsBuilt input → entry ≢ InputEntry input) → Gave payload entry
     → IsNoNextPayload server h payload
 no_built_payload server h payload entry valid unbuilt one =
-    no_next_payload server h payload valid (λ (input : Input) (next : IsAcceptableInput server h input) (same : payload ≡ payload_of (InputEntry input)).
+    no_next_payload server h payload valid
+    (λ (input : Input) (next : IsAcceptableInput server h input) (same : payload ≡ payload_of (InputEntry input)).
     let is = one (InputEntry input) (record { entry_is = next.normal; payload = same }) in
     unbuilt input next.built (cc))
 
@@ -54,7 +57,8 @@ pub refused_payload : (server : List ℕ) (h : History) (payload : List ℕ) (en
     → error ≡ Refused refusal → IsPrepared server h input (Err error) → Gave payload entry
     → IsNoNextPayload server h payload
 refused_payload server h payload entry input error refusal valid entry_is error_is prepared one =
-    no_next_payload server h payload valid (λ (other : Input) (next : IsAcceptableInput server h other) (same : payload ≡ payload_of (InputEntry other)).
+    no_next_payload server h payload valid
+    (λ (other : Input) (next : IsAcceptableInput server h other) (same : payload ≡ payload_of (InputEntry other)).
     let is = one (InputEntry other) (record { entry_is = next.normal; payload = same }) in
     let inputs : other ≡ input = cc (is, entry_is) in
     let refused : refusal_of server h input ≡ Some refusal =

@@ -1,5 +1,6 @@
 -- How reading the entries of a journal goes on.
-use Rattle.std.proofs.Common.{◌≡◌, ℕ, ◌+◌, ◌≤◌, List, [], ◌∷◌, ◌++◌, Option, Some, None, IfSome, inl, length, map, refl, sym, ap, subst, ◌∙◌, arith, rules}
+use Rattle.std.proofs.Common.{◌≡◌, ℕ, ◌+◌, ◌≤◌, List, [], ◌∷◌, ◌++◌, Option, Some, None, IfSome, inl, length, map, refl}
+use Rattle.std.proofs.Common.{sym, ap, subst, ◌∙◌, arith, rules}
 use Rattle.std.proofs.lemmas.List.{length_push}
 use Rattle.mx_outside.specs.Told.{WhereTold}
 use Rattle.mx_journal.specs.Calls.{OnlyReads}
@@ -14,7 +15,8 @@ use Rattle.mx_records.specs.Snapshot.{Snapshot, snapshot_of}
 use Rattle.mx_store.specs.declared.error.StoreError.TheVariants.{NotAJournal}
 use Rattle.mx_store.specs.Opening.{store_error, GoesOnWith, HasReadMore, HasReadSoFar}
 use Rattle.mx_store.specs.Store.{HasReadAll, Knows}
-use Rattle.mx_records.proofs.ValidLemmas.{IsValid-none, IsValid-push, length-payloads_of, payloads_of-none, payloads_of-push, valid-inputs_of}
+use Rattle.mx_records.proofs.ValidLemmas.{IsValid-none, IsValid-push, length-payloads_of, payloads_of-none}
+use Rattle.mx_records.proofs.ValidLemmas.{payloads_of-push, valid-inputs_of}
 
 -- One entry more.
 pub read_more : {D : Type 0} (seen : D → Option (List ℕ)) (old new : Opened D) (server before : List ℕ)
@@ -32,7 +34,8 @@ read_more seen old new server before shown h payload same valid goes few read =
       next,
       record {
         knows = record {
-          valid = IsValid-push server h goes.entry (subst (λ (s : List ℕ). IsValid s h) (sym same) valid) goes.acceptable;
+          valid =
+              IsValid-push server h goes.entry (subst (λ (s : List ℕ). IsValid s h) (sym same) valid) goes.acceptable;
           is = goes.is;
         };
         one = one;
@@ -98,7 +101,8 @@ pub read_all : {D : Type 0} (seen : D → Option (List ℕ)) (may_leave : D → 
     → LeavesAlike content payloads (may_leave mid.disk) → Rests seen may_leave new payloads)
     → ((image : List ℕ) → may_leave mid.disk image → may_leave old.disk image)
     → HasReadAll seen may_leave old new server shown count h
-read_all seen may_leave old mid new server before shown earlier count h same_server same_shown so_far stands rests back =
+read_all seen may_leave old mid new server before shown earlier count h same_server same_shown so_far stands
+    rests back =
     record {
       knows = record {
         valid = subst (λ (s : List ℕ). IsValid s h) (sym same_server) so_far.knows.valid;

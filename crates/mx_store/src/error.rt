@@ -11,8 +11,8 @@ use std::fmt;
 /// Why a store can't be opened, or its entries can't be counted.
 #[derive(Clone, Copy, Debug, PartialEq, Eq)]
 pub enum StoreError {
-    /// The disk stands for no history of this homeserver. Its first fault is at this offset, in bytes
-    /// from 0.
+    /// The disk stands for no history of this homeserver. Its first fault is at this offset, in
+    /// bytes from 0.
     NotAJournal(u64),
     /// The disk failed.
     DiskFault,

@@ -1,5 +1,6 @@
 //! The entries of a journal, accepted one after another.
-ghost use Rattle.std.specs.Prelude.{◌≡◌, ◌≢◌, ◌≤◌, ℕ, List, [], true, false, Ok, Err, IfOk, MatchOption, OnOk};
+ghost use Rattle.std.specs.Prelude.{◌≡◌, ◌≢◌, ◌≤◌, ℕ, List, [], true, false, Ok, Err, IfOk};
+ghost use Rattle.std.specs.Prelude.{MatchOption, OnOk};
 ghost use Rattle.mx_journal.specs.Image.{StandsForPayloads};
 ghost use Rattle.mx_journal.specs.Journal.{LeavesAlike, Rests};
 ghost use Rattle.mx_records.specs.History.{position_after};

@@ -1,9 +1,11 @@
-ghost use Rattle.std.specs.Prelude.{◌≡◌, ◌≢◌, ◌+◌, ◌-◌, ◌<◌, ◌≤◌, ◌↔◌, IfSome, IfOk, true, false, length};
+ghost use Rattle.std.specs.Prelude.{◌≡◌, ◌≢◌, ◌+◌, ◌-◌, ◌<◌, ◌≤◌, ◌↔◌, IfSome, IfOk, true, false};
+ghost use Rattle.std.specs.Prelude.{length};
 ghost use Rattle.mx_outside.specs.Told.{Rose};
 ghost use Rattle.mx_outside.specs.Link.{IsOpen};
 ghost use Rattle.mx_wire.specs.Found.{found_of};
 ghost use Rattle.mx_wire.specs.Reply.{Outcome};
-ghost use Rattle.mx_wire.specs.Standing.{Polls, Heard, IsHeard, standing_first, longest_wait, greatest_reply, after_bytes, after_end, is_done};
+ghost use Rattle.mx_wire.specs.Standing.{Polls, Heard, IsHeard, standing_first, longest_wait};
+ghost use Rattle.mx_wire.specs.Standing.{greatest_reply, after_bytes, after_end, is_done};
 ghost use Rattle.mx_wire.specs.Standing.Call.{gets, ends};
 
 use crate::coding::Coding;
@@ -21,8 +23,8 @@ const GREATEST_REPLY: usize = 65_536;
 /// An exchange is late from so many milliseconds on after its opening.
 const LONGEST_WAIT: u64 = 60_000;
 
-/// What one exchange with a gateway has come to: how much of the request was sent, and what was read
-/// of the reply.
+/// What one exchange with a gateway has come to: how much of the request was sent, and what was
+/// read of the reply.
 #[derive(Drop)]
 pub(crate) struct Conversation {
     opened_at: u64,

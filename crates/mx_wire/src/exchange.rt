@@ -13,8 +13,8 @@ use std::marker::Model;
 /// How many bytes are received at once at most.
 const WINDOW: usize = 4096;
 
-/// One exchange with a gateway: a request that is sent whole, and then its reply, by RFC 9112 in our
-/// profile.
+/// One exchange with a gateway: a request that is sent whole, and then its reply, by RFC 9112 in
+/// our profile.
 #[derive(Drop)]
 pub struct Exchange {
     conversation: Conversation,
@@ -34,8 +34,8 @@ impl Model for Exchange {
 }
 
 impl Exchange {
-    /// An exchange that was opened under this number at this moment, in milliseconds, and is to send
-    /// this request. It takes the memory for the reply.
+    /// An exchange that was opened under this number at this moment, in milliseconds, and is to
+    /// send this request. It takes the memory for the reply.
     ///
     /// # Errors
     ///

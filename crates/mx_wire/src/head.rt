@@ -1,9 +1,11 @@
-ghost use Rattle.std.specs.Prelude.{◌≡◌, ◌+◌, ◌*◌, ◌++◌, ◌∷◌, ◌<◌, ◌≤◌, [], List, ℕ, length, map, take, codes, option_map, All};
+ghost use Rattle.std.specs.Prelude.{◌≡◌, ◌+◌, ◌*◌, ◌++◌, ◌∷◌, ◌<◌, ◌≤◌, [], List, ℕ, length, map};
+ghost use Rattle.std.specs.Prelude.{take, codes, option_map, All};
 ghost use Rattle.std.specs.List.{list_all};
 ghost use Rattle.std.specs.Char.{is_ascii_digit};
 ghost use Rattle.std.specs.Str.{str_eq_ignore_ascii_case};
 ghost use Rattle.httparse.specs.Spans.{IsHeaderWithin, header_bytes, IsWithin, span_bytes};
-ghost use Rattle.mx_wire.specs.Heads.{HasMeaning, meaning_by, framing_by, framing_of, once, once_more, values_of, short_number};
+ghost use Rattle.mx_wire.specs.Heads.{HasMeaning, meaning_by, framing_by, framing_of, once};
+ghost use Rattle.mx_wire.specs.Heads.{once_more, values_of, short_number};
 ghost use Rattle.mx_wire.specs.Seen.{seen_of, IsSeenWithin};
 
 use crate::number::number;

@@ -1,4 +1,5 @@
-ghost use Rattle.std.specs.Prelude.{◌≡◌, ◌+◌, ◌<◌, ◌≤◌, ◌∷◌, [], ℕ, List, Bool, false, length, vec_len, vec_capacity};
+ghost use Rattle.std.specs.Prelude.{◌≡◌, ◌+◌, ◌<◌, ◌≤◌, ◌∷◌, [], ℕ, List, Bool, false, length};
+ghost use Rattle.std.specs.Prelude.{vec_len, vec_capacity};
 ghost use Rattle.mx_wire.specs.Reading.Reading.{Got};
 ghost use Rattle.mx_wire.specs.Blocks.{next_in_block};
 ghost use Rattle.mx_wire.specs.Reply.{Outcome, ReadsFrom, body_of};

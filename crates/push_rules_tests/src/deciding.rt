@@ -130,7 +130,8 @@ fn each_predefined_rule_decides_once(rt: HostRuntime) {
     }
 }
 
-/// Whether the case's rule decides for the case's owner and event, and none does where none is told.
+/// Whether the case's rule decides for the case's owner and event,
+/// and none does where none is told.
 fn decides(rt: &impl Abort, alloc: Global, case: &PredefinedCase) -> bool {
     let text = event_with(rt, alloc, case.fields);
     let rules = predefined_of(rt, alloc, case.owner);

@@ -195,9 +195,11 @@ static REQUEST: &str = "POST https://push.example/_matrix/push/v1/notify HTTP/1.
 #[rattlefmt::skip]
 static CASES: [Case; 10] = [
     // A message with a sound, whole and by its id alone.
-    (r#"{"url":"https://push.example/_matrix/push/v1/notify"}"#, r#""type":"m.room.message","content":{"body":"hi","msgtype":"m.text"}"#, "", false, "default",
+    (r#"{"url":"https://push.example/_matrix/push/v1/notify"}"#,
+        r#""type":"m.room.message","content":{"body":"hi","msgtype":"m.text"}"#, "", false, "default",
         r#"{"notification":{"content":{"body":"hi","msgtype":"m.text"},"counts":{"unread":1},"devices":[{"app_id":"app","data":{},"pushkey":"k1","pushkey_ts":1700000000,"tweaks":{"sound":"default"}}],"event_id":"$3","prio":"high","room_id":"!r:example.org","sender":"@a:example.org","type":"m.room.message"}}"#),
-    (r#"{"format":"event_id_only","url":"https://push.example/_matrix/push/v1/notify"}"#, r#""type":"m.room.message","content":{"body":"hi","msgtype":"m.text"}"#, "Alice", true, "default",
+    (r#"{"format":"event_id_only","url":"https://push.example/_matrix/push/v1/notify"}"#,
+        r#""type":"m.room.message","content":{"body":"hi","msgtype":"m.text"}"#, "Alice", true, "default",
         r#"{"notification":{"counts":{"unread":1},"devices":[{"app_id":"app","data":{"format":"event_id_only"},"pushkey":"k1","pushkey_ts":1700000000}],"event_id":"$3","room_id":"!r:example.org"}}"#),
     // A display name; neither sound nor highlight.
     (r#"{"url":"u"}"#, r#""type":"m.room.message","content":{"body":"hi"}"#, "Alice", false, "",
@@ -218,6 +220,7 @@ static CASES: [Case; 10] = [
     (r#"{"url":"u"}"#, r#""type":"m.room.topic","state_key":"@b:example.org","content":{}"#, "", false, "",
         r#"{"notification":{"content":{},"counts":{"unread":1},"devices":[{"app_id":"app","data":{},"pushkey":"k1","pushkey_ts":1700000000,"tweaks":{}}],"event_id":"$3","prio":"low","room_id":"!r:example.org","sender":"@a:example.org","type":"m.room.topic"}}"#),
     // `data` with other members, before and behind the URL.
-    (r#"{"a":1,"format":"whole","url":"u","urls":["u"],"z":{"url":"v"}}"#, r#""type":"m.room.message","content":{}"#, "", false, "",
+    (r#"{"a":1,"format":"whole","url":"u","urls":["u"],"z":{"url":"v"}}"#, r#""type":"m.room.message","content":{}"#,
+        "", false, "",
         r#"{"notification":{"content":{},"counts":{"unread":1},"devices":[{"app_id":"app","data":{"a":1,"format":"whole","urls":["u"],"z":{"url":"v"}},"pushkey":"k1","pushkey_ts":1700000000,"tweaks":{}}],"event_id":"$3","prio":"low","room_id":"!r:example.org","sender":"@a:example.org","type":"m.room.message"}}"#),
 ];

@@ -72,8 +72,8 @@ fn is_cut_right(rt: &impl Abort, alloc: Global, whole: &[u8], length: usize) -> 
     inputs_of(rt, alloc, memory(rt, alloc, cut), SERVER) == answer_cut_at(length as u64)
 }
 
-/// What an image of three entries is that ends here: what has at most 17 bytes stands for no entry, and
-/// else the last gate that it has, or misses, is faulty.
+/// What an image of three entries is that ends here: what has at most 17 bytes stands for no entry,
+/// and else the last gate that it has, or misses, is faulty.
 fn answer_cut_at(length: u64) -> Result<u64, StoreError> {
     if length <= 17 {
         Ok(0)

@@ -1,5 +1,5 @@
-//! Tests of `mx_store`, over what it makes public. They stand here so that it isn't proved once more
-//! with its tests.
+//! Tests of `mx_store`, over what it makes public. They stand here so that it isn't proved once
+//! more with its tests.
 #![tactic(auto)]
 
 #[cfg(test)]

@@ -113,7 +113,8 @@ const EARLY: Ending = Ending::Failed(Cause::Early);
 #[rattlefmt::skip]
 static REPLIES: [Row; 44] = [
     // In pieces, early ends.
-    ("HTTP/1.1 100 Continue\r\n\r\nHTTP/1.1 200 OK\r\nTransfer-Encoding: chunked\r\n\r\n2\r\n{}\r\n0\r\n\r\n", "", 0, "", LinkStep::End, WHOLE, "{}"),
+    ("HTTP/1.1 100 Continue\r\n\r\nHTTP/1.1 200 OK\r\nTransfer-Encoding: chunked\r\n\r\n2\r\n{}\r\n0\r\n\r\n",
+        "", 0, "", LinkStep::End, WHOLE, "{}"),
     ("HTTP/1.1 200 OK\r\nContent-Length: 5\r\n\r\nabc", "", 0, "", LinkStep::End, EARLY, ""),
     ("", "", 0, "", LinkStep::End, EARLY, ""),
     ("HTTP/1.1 199 Early\r\n\r\n", "", 0, "", LinkStep::End, EARLY, ""),
@@ -134,7 +135,8 @@ static REPLIES: [Row; 44] = [
     ("HTTP/1.1 200 OK\r\nContent-Length: 0000000002\r\n\r\n{}", "", 0, "", LinkStep::End, WHOLE, "{}"),
     ("HTTP/1.1 200 OK\r\nContent-Length: 2x\r\n\r\n{}", "", 0, "", LinkStep::End, NO_REPLY, ""),
     ("HTTP/1.1 200 OK\r\nContent-Length:\r\n\r\n{}", "", 0, "", LinkStep::End, NO_REPLY, ""),
-    ("HTTP/1.1 200 OK\r\nContent-Length: 2\r\nTransfer-Encoding: chunked\r\n\r\n2\r\n{}\r\n0\r\n\r\n", "", 0, "", LinkStep::End, NO_REPLY, ""),
+    ("HTTP/1.1 200 OK\r\nContent-Length: 2\r\nTransfer-Encoding: chunked\r\n\r\n2\r\n{}\r\n0\r\n\r\n",
+        "", 0, "", LinkStep::End, NO_REPLY, ""),
     ("HTTP/1.1 200 OK\r\nContent-Length: 2\r\ncontent-length: 2\r\n\r\n{}", "", 0, "", LinkStep::End, NO_REPLY, ""),
     ("HTTP/1.1 302 Found\r\nContent-Length: 0\r\n\r\n", "", 0, "", LinkStep::Wait, Ending::Reply(302), ""),
     ("HTTP/1.1 204 No Content\r\nContent-Length: 5\r\n\r\n", "", 0, "", LinkStep::Wait, Ending::Reply(204), ""),
@@ -151,9 +153,12 @@ static REPLIES: [Row; 44] = [
     ("HTTP/1.1 200 OK\nContent-Length: 2\n\n{}", "", 0, "", LinkStep::Wait, WHOLE, "{}"),
     ("\r\n\nHTTP/1.1 200 OK\r\ncOnTeNt-LeNgTh: 2\r\n\r\n{}", "", 0, "", LinkStep::Wait, WHOLE, "{}"),
     // Chunks.
-    ("HTTP/1.1 200 OK\r\nTransfer-Encoding: CHUNKED\r\n\r\n2;a=b\r\n{}\r\n0\r\nt: 1\r\n\r\n", "", 0, "", LinkStep::Wait, WHOLE, "{}"),
-    ("HTTP/1.1 200 OK\r\nTransfer-Encoding: chunked\r\n\r\n1 \r\n{\r\n01\t;x\r\n}\r\n000\r\n\r\n", "", 0, "", LinkStep::Wait, WHOLE, "{}"),
-    ("HTTP/1.1 200 OK\r\nTransfer-Encoding: chunked\r\n\r\nA\r\n0123456789\r\n1f\r\n0123456789012345678901234567890\r\n0\r\n\r\n", "", 0, "", LinkStep::Wait, WHOLE, "01234567890123456789012345678901234567890"),
+    ("HTTP/1.1 200 OK\r\nTransfer-Encoding: CHUNKED\r\n\r\n2;a=b\r\n{}\r\n0\r\nt: 1\r\n\r\n",
+        "", 0, "", LinkStep::Wait, WHOLE, "{}"),
+    ("HTTP/1.1 200 OK\r\nTransfer-Encoding: chunked\r\n\r\n1 \r\n{\r\n01\t;x\r\n}\r\n000\r\n\r\n",
+        "", 0, "", LinkStep::Wait, WHOLE, "{}"),
+    ("HTTP/1.1 200 OK\r\nTransfer-Encoding: chunked\r\n\r\nA\r\n0123456789\r\n1f\r\n0123456789012345678901234567890\r\n0\r\n\r\n",
+        "", 0, "", LinkStep::Wait, WHOLE, "01234567890123456789012345678901234567890"),
     ("HTTP/1.1 200 OK\r\nTransfer-Encoding: gzip, chunked\r\n\r\n2\r\n{}\r\n0\r\n\r\n", "", 0, "", LinkStep::End, NO_REPLY, ""),
     ("HTTP/1.1 200 OK\r\nTransfer-Encoding: chunked\r\n\r\nzz\r\n", "", 0, "", LinkStep::End, NO_REPLY, ""),
     ("HTTP/1.1 200 OK\r\nTransfer-Encoding: chunked\r\n\r\n000000002\r\n{}\r\n0\r\n\r\n", "", 0, "", LinkStep::End, NO_REPLY, ""),

@@ -7,7 +7,8 @@ ghost use Rattle.mx_records.specs.Counting.{counts_of, threads_of};
 ghost use Rattle.mx_records.specs.History.{History};
 ghost use Rattle.mx_records.specs.Refusing.{most_inputs};
 ghost use Rattle.mx_records.specs.Snapshot.{snapshot_of};
-ghost use Rattle.mx_lines.specs.Replies.{by_root, by_thread, counts_value, numbers_of, object_of, root_member};
+ghost use Rattle.mx_lines.specs.Replies.{by_root, by_thread, counts_value, numbers_of, object_of};
+ghost use Rattle.mx_lines.specs.Replies.{root_member};
 ghost use Rattle.mx_lines.specs.Roots.{MayStand, roots_in};
 
 use super::number;

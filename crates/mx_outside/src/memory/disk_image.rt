@@ -1,4 +1,5 @@
-ghost use Rattle.std.specs.Prelude.{◌≡◌, ◌+◌, ◌≤◌, ℕ, true, length, max, take, replicate, vec_len, vec_capacity, MatchResult, IsOk, OnOk, OnErr, IfOk};
+ghost use Rattle.std.specs.Prelude.{◌≡◌, ◌+◌, ◌≤◌, ℕ, true, length, max, take, replicate, vec_len};
+ghost use Rattle.std.specs.Prelude.{vec_capacity, MatchResult, IsOk, OnOk, OnErr, IfOk};
 ghost use Rattle.mx_outside.specs.Disk.{put_at};
 
 use std::alloc::{AllocError, Global};
@@ -79,7 +80,8 @@ fn reserve_to<T>(items: &mut Vec<T>, capacity: usize) -> Result<(), AllocError>
 
 impl DiskImage {
     ghost use Rattle.mx_outside.specs.Changes.{filled};
-    ghost use Rattle.mx_outside.specs.DiskImage.{image_written, image_cut, image_synced, image_first};
+    ghost use Rattle.mx_outside.specs.DiskImage.{image_written, image_cut, image_synced};
+    ghost use Rattle.mx_outside.specs.DiskImage.{image_first};
 
     /// This content, all of it synced, with memory for `more` further bytes.
     pub fn new(alloc: Global, content: &[u8], more: usize) -> Result<DiskImage, AllocError>

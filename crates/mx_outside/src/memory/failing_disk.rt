@@ -1,4 +1,5 @@
-ghost use Rattle.std.specs.Prelude.{◌≡◌, ◌+◌, ◌^◌, ◌<◌, ◌≤◌, length, IfSome, IfOk, IsOk, IsErr, OnOk, OnErr};
+ghost use Rattle.std.specs.Prelude.{◌≡◌, ◌+◌, ◌^◌, ◌<◌, ◌≤◌, length, IfSome, IfOk, IsOk, IsErr};
+ghost use Rattle.std.specs.Prelude.{OnOk, OnErr};
 
 use crate::disk::Disk;
 use crate::fault::Failed;
@@ -47,7 +48,8 @@ impl<D> FailingDisk<D> {
 impl<D: Disk> Disk for FailingDisk<D> {
     ghost use Rattle.mx_outside.specs.Told.{WhereTold};
     ghost use Rattle.mx_outside.specs.Budget.{Covers, SpendsAtMost};
-    ghost use Rattle.mx_outside.specs.Disk.{Wrote, WasCut, IsRead, Torn, Shortened, Follows, NoMore, SameImages, Only, Elapses, CountsFaults};
+    ghost use Rattle.mx_outside.specs.Disk.{Wrote, WasCut, IsRead, Torn, Shortened, Follows};
+    ghost use Rattle.mx_outside.specs.Disk.{NoMore, SameImages, Only, Elapses, CountsFaults};
     ghost use Rattle.mx_outside.specs.Failing.{FailsAsListed, budget_below};
 
     ghost seen = { λ d. D.seen d.below };

@@ -1,4 +1,6 @@
-ghost use Rattle.std.specs.Prelude.{◌≡◌, ◌+◌, ◌^◌, ◌<◌, ◌≤◌, ℕ, List, Some, Ok, [], length, take, drop, IsTrue, IsErr, IsOk, IfSome, IfOk, OnOk, OnErr, MatchResult, ◌↔◌};
+ghost use Rattle.std.specs.Prelude.{◌≡◌, ◌+◌, ◌^◌, ◌<◌, ◌≤◌, ℕ, List, Some, Ok, [], length, take};
+ghost use Rattle.std.specs.Prelude.{drop, IsTrue, IsErr, IsOk, IfSome, IfOk, OnOk, OnErr};
+ghost use Rattle.std.specs.Prelude.{MatchResult, ◌↔◌};
 ghost use Rattle.mx_outside.specs.Budget.{Covers};
 ghost use Rattle.mx_outside.specs.Changes.{AreChanges};
 ghost use Rattle.mx_outside.specs.Changes.Change.{written, cut_to, synced};
@@ -58,7 +60,8 @@ fn is_within(at: u64, count: usize) -> bool
 
 impl MemoryDisk {
     ghost use Rattle.mx_outside.specs.Since.{LeavesImages};
-    ghost use Rattle.mx_outside.specs.MemoryDisk.{Medium, content_now, MayLeaveNow, budget_of, Changes, changed, faulted, left_by, at_rest};
+    ghost use Rattle.mx_outside.specs.MemoryDisk.{Medium, content_now, MayLeaveNow, budget_of};
+    ghost use Rattle.mx_outside.specs.MemoryDisk.{Changes, changed, faulted, left_by, at_rest};
 
     /// A disk with this content, with memory for writes of `bytes` bytes in all and for `calls`
     /// calls that change it. Calls within these take no memory. `OutOfMemory` where there
@@ -170,8 +173,10 @@ impl MemoryDisk {
 
 impl Disk for MemoryDisk {
     ghost use Rattle.mx_outside.specs.Told.{WhereTold, Rose};
-    ghost use Rattle.mx_outside.specs.Disk.{Torn, Shortened, Follows, NoMore, SameImages, Only, Elapses, Wrote, WasCut, IsRead};
-    ghost use Rattle.mx_outside.specs.MemoryDisk.{content_now, MayLeaveNow, moment_of, LeftSince, budget_of, Changes};
+    ghost use Rattle.mx_outside.specs.Disk.{Torn, Shortened, Follows, NoMore, SameImages, Only};
+    ghost use Rattle.mx_outside.specs.Disk.{Elapses, Wrote, WasCut, IsRead};
+    ghost use Rattle.mx_outside.specs.MemoryDisk.{content_now, MayLeaveNow, moment_of, LeftSince};
+    ghost use Rattle.mx_outside.specs.MemoryDisk.{budget_of, Changes};
     ghost use Rattle.mx_outside.specs.MediumLaws.{counts_now, only_now};
 
     ghost seen = { λ d. Some (content_now d) };

@@ -1,7 +1,8 @@
 ghost use Rattle.std.specs.Prelude.{◌≡◌, ◌+◌, ◌<◌, ◌≤◌, [], false, length, IfOk, MatchResult};
 ghost use Rattle.mx_outside.specs.Link.{IsSent, IsReceived};
 ghost use Rattle.mx_outside.specs.Script.{next_of, next_bytes};
-ghost use Rattle.mx_outside.specs.ScriptLink.{place_for, OpensPlace, LetsSend, SendsPlace, ReceivesPlace, ClosesPlace};
+ghost use Rattle.mx_outside.specs.ScriptLink.{place_for, OpensPlace, LetsSend, SendsPlace};
+ghost use Rattle.mx_outside.specs.ScriptLink.{ReceivesPlace, ClosesPlace};
 
 use crate::link::{Received, Sent};
 use crate::memory::script::{LinkStep, Script};

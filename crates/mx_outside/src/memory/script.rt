@@ -1,5 +1,6 @@
 ghost use Rattle.std.specs.Prelude.{◌≡◌, ◌<◌, ◌≤◌, ℕ, Some, false, true, [], length, drop};
-ghost use Rattle.mx_outside.specs.Script.{unscripted, steps_of, next_of, step_for, next_bytes, with_bytes};
+ghost use Rattle.mx_outside.specs.Script.{unscripted, steps_of, next_of, step_for, next_bytes};
+ghost use Rattle.mx_outside.specs.Script.{with_bytes};
 
 use std::alloc::Global;
 use std::marker::Model;

@@ -1,8 +1,11 @@
-ghost use Rattle.std.specs.Prelude.{◌≡◌, ◌<◌, ◌≤◌, [], length, map, IfOk, OnOk, MatchResult, if◌then◌else◌, ◌++◌, ◌-◌, replicate};
+ghost use Rattle.std.specs.Prelude.{◌≡◌, ◌<◌, ◌≤◌, [], length, map, IfOk, OnOk, MatchResult};
+ghost use Rattle.std.specs.Prelude.{if◌then◌else◌, ◌++◌, ◌-◌, replicate};
 ghost use Rattle.mx_outside.specs.Told.{raised};
 ghost use Rattle.mx_outside.specs.Link.{IsOpen};
 ghost use Rattle.mx_outside.specs.Script.{unscripted};
-ghost use Rattle.mx_outside.specs.ScriptLink.{place_for, log_of, OpensNext, LacksRoom, KeepsCounts, OpensScripted, SendsPlace, CountsSent, ReceivesPlace, CountsReceived, ClosesPlace, Acts};
+ghost use Rattle.mx_outside.specs.ScriptLink.{place_for, log_of, OpensNext, LacksRoom, KeepsCounts};
+ghost use Rattle.mx_outside.specs.ScriptLink.{OpensScripted, SendsPlace, CountsSent, ReceivesPlace};
+ghost use Rattle.mx_outside.specs.ScriptLink.{CountsReceived, ClosesPlace, Acts};
 
 use crate::link::{Link, Opening, Received, Sent};
 use crate::memory::opened::Opened;
@@ -14,8 +17,8 @@ use std::marker::Model;
 /// A link in memory, whose exchanges go as scripts say.
 ///
 /// The k-th call of `open` has the k-th script. Past the last script an exchange is opened, takes
-/// all that is sent and waits. A call fails only where a script says so, or finds no memory past its
-/// room.
+/// all that is sent and waits. A call fails only where a script says so, or finds no memory past
+/// its room.
 #[derive(Drop)]
 pub struct ScriptLink {
     places: Vec<Opened>,
@@ -160,7 +163,8 @@ fn count_if(count: u64, happened: bool) -> u64
 
 impl Link for ScriptLink {
     ghost use Rattle.std.specs.Prelude.{Some};
-    ghost use Rattle.mx_outside.specs.Link.{Opens, IsSent, Sends, IsReceived, Receives, Changes, with_closed};
+    ghost use Rattle.mx_outside.specs.Link.{Opens, IsSent, Sends, IsReceived, Receives, Changes};
+    ghost use Rattle.mx_outside.specs.Link.{with_closed};
 
     ghost log = { λ l. Some (log_of l) };
 

@@ -1,4 +1,5 @@
-use Rattle.std.proofs.Common.{ℕ, nat_le, cond, map, slice_get, ◌≡◌, true, ◌+◌, Some, length, count_by, sum_by, sym, subst, ◌∙◌, ap, arith}
+use Rattle.std.proofs.Common.{ℕ, nat_le, cond, map, slice_get, ◌≡◌, true, ◌+◌, Some, length, count_by, sum_by, sym}
+use Rattle.std.proofs.Common.{subst, ◌∙◌, ap, arith}
 use Rattle.std.proofs.lemmas.Bool.{cond-false, lt-leb}
 use Rattle.std.specs.List.Sorted.{IsPartitionedBy}
 use Rattle.indexmap.specs.IndexMap.{set_value_at}

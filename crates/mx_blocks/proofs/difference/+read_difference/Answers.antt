@@ -1,6 +1,8 @@
-use Rattle.std.proofs.Common.{◌≡◌, ℕ, ◌+◌, ◌-◌, ◌*◌, ◌<◌, ◌≤◌, ◌^◌, List, ◌∷◌, drop, length, get_or, sym, subst, ap, ◌∙◌, arith, length-drop}
+use Rattle.std.proofs.Common.{◌≡◌, ℕ, ◌+◌, ◌-◌, ◌*◌, ◌<◌, ◌≤◌, ◌^◌, List, ◌∷◌, drop, length, get_or, sym, subst, ap}
+use Rattle.std.proofs.Common.{◌∙◌, arith, length-drop}
 use Rattle.mx_blocks.specs.Differences.{differences, IsFirstBelow, IsPacked, with_low}
-use Rattle.mx_blocks.proofs.DifferenceLemmas.{differences-last, drop_at, differences-more, first_is_below, IsFirstBelow-higher, IsPacked-tail, more_follows}
+use Rattle.mx_blocks.proofs.DifferenceLemmas.{differences-last, drop_at, differences-more, first_is_below}
+use Rattle.mx_blocks.proofs.DifferenceLemmas.{IsFirstBelow-higher, IsPacked-tail, more_follows}
 use Rattle.mx_blocks.proofs.difference.+read_difference.Goals as goal
 
 pub returns-then-byte-lt128-clause-packed : goal.returns-then-byte-lt128-clause-packed

@@ -20,4 +20,5 @@ returns-then-is_body c =
     IfOk-weaker _ word has told c.is_word_of.ensures
 
 pub is_whole-requires : goal.is_whole-requires
-is_whole-requires c = λ yes. subst (λ found. IfSome found (λ t. IsAscii t)) (sym (c.in-Some.ensures {u = tt})) (c.is_ascii.ensures yes)
+is_whole-requires c =
+    λ yes. subst (λ found. IfSome found (λ t. IsAscii t)) (sym (c.in-Some.ensures {u = tt})) (c.is_ascii.ensures yes)

@@ -8,7 +8,8 @@ use Rattle.mx_rule.specs.Ruleset.{rules_of_kind}
 use Rattle.mx_rule.proofs.ChangeLemmas.{changed-by_place}
 use Rattle.mx_rule.proofs.EditLemmas.{AreRules-from}
 use Rattle.mx_edit.specs.Planning.{refusal_of_actions}
-use Rattle.mx_edit.proofs.PlanLemmas.{passed-first, refusal-SetActions, told, told-first, told-same, tries-told, IsPlanOf-by}
+use Rattle.mx_edit.proofs.PlanLemmas.{passed-first, refusal-SetActions, told, told-first, told-same, tries-told}
+use Rattle.mx_edit.proofs.PlanLemmas.{IsPlanOf-by}
 use Rattle.mx_edit.proofs.plan.plan_actions.Goals as goal
 
 pub returns-in_err-check_actions : goal.returns-in_err-check_actions

@@ -7,7 +7,8 @@ use Rattle.mx_rows.specs.declared.row.Row.{Row}
 use Rattle.mx_engine.specs.KeptRows.{has_capacity, list_at}
 use Rattle.mx_engine.specs.Planning.{row_added}
 use Rattle.mx_engine.specs.Telling.{said_in}
-use Rattle.mx_engine.proofs.TellingLemmas.{any-here, apart_rest, capacity-apart, here, none_rest, once_rest, or_true, push-step, pushed-apart}
+use Rattle.mx_engine.proofs.TellingLemmas.{any-here, apart_rest, capacity-apart, here, none_rest, once_rest, or_true}
+use Rattle.mx_engine.proofs.TellingLemmas.{push-step, pushed-apart}
 use Rattle.mx_engine.proofs.telling.push_rows.Goals as goal
 
 pub push-requires-clause-capacity : goal.push-requires-clause-capacity

@@ -27,7 +27,8 @@ loop-k-preserved g c =
           c.sum-counts.ensures.notify,
       within-more c.loop-k.k c.loop-k.counts.highlight c.counts.result.highlight c.sum-counts.result.highlight
           c.loop-k.invariant.3
-          (subst (λ (counts : Counts). counts.highlight ≤ most_inputs) (sym c.counts.ensures) (highlight-few (list t) few))
+          (subst (λ (counts : Counts). counts.highlight ≤ most_inputs) (sym c.counts.ensures)
+          (highlight-few (list t) few))
           c.sum-counts.ensures.highlight,
     )
 

@@ -5,7 +5,8 @@ use Rattle.mx_glob.proofs.fall.fallen_state.Goals as goal
 
 pub returns-then-state-eq0 : goal.returns-then-state-eq0
 returns-then-state-eq0 c =
-    let none : NoneLonger c.args.segment.now c.args.state c.args.here c.args.state = λ t above high ends same. absurd (omega arith) in
+    let none : NoneLonger c.args.segment.now c.args.state c.args.here c.args.state =
+    λ t above high ends same. absurd (omega arith) in
     let at_start : c.args.state ≡ 0 = omega arith in
     IsNext-none c.args.segment.now c.args.state c.args.here c.args.state at_start none c.requires.other
 
@@ -15,9 +16,13 @@ loop-here-init c =
     let state = c.args.state in
     let next = slice_index c.args.falls.now (state - 1) in
     let fall : IsFall segment state next = c.requires.known state (omega arith) (omega arith) in
-    let whole : StandsAt segment segment state (state - state) = λ i h. let e : state - state + i ≡ i = omega arith in ap (slice_get segment) e in
-    let none : NoneLonger segment state c.args.here state = λ t above high ends same. absurd (omega arith) in
-    (omega (arith, fall.below), fall.ends, fall_none segment state c.args.here state next (omega arith) whole fall none c.requires.other)
+    let whole : StandsAt segment segment state (state - state) = λ i h. let e : state - state + i ≡ i = omega arith in
+    ap (slice_get segment) e in
+    let none : NoneLonger segment state c.args.here state = λ t above high ends same. absurd (omega arith) in (
+      omega (arith, fall.below),
+      fall.ends,
+      fall_none segment state c.args.here state next (omega arith) whole fall none c.requires.other,
+    )
 
 pub stands_at-requires : goal.stands_at-requires
 stands_at-requires c = omega (arith, c.loop-here.invariant.0, c.requires.within)
@@ -30,7 +35,8 @@ loop-here-preserved c =
     let short : shorter ≤ c.args.state = omega (arith, c.loop-here.invariant.0) in
     let ends = c.loop-here.invariant.1 in
     let fall : IsFall segment shorter next = c.requires.known shorter (omega arith) (omega arith) in
-    let other : slice_get segment shorter ≡ Some c.args.here → ⊥ = λ same. absurd (let yes = c.stands_at.ensures.1 same in cc) in (
+    let other : slice_get segment shorter ≡ Some c.args.here → ⊥ =
+    λ same. absurd (let yes = c.stands_at.ensures.1 same in cc) in (
       omega (arith, fall.below),
       fall_ends segment c.args.state shorter next short ends fall,
       fall_none segment c.args.state c.args.here shorter next short ends fall c.loop-here.invariant.2 other,
@@ -39,10 +45,12 @@ loop-here-preserved c =
 pub returns-then-shorter-eq0 : goal.returns-then-shorter-eq0
 returns-then-shorter-eq0 c =
     let at_start : c.loop-here.shorter ≡ 0 = omega arith in
-    let other : slice_get c.args.segment.now c.loop-here.shorter ≡ Some c.args.here → ⊥ = λ same. absurd (let yes = c.stands_at.ensures.1 same in cc) in
+    let other : slice_get c.args.segment.now c.loop-here.shorter ≡ Some c.args.here → ⊥ =
+    λ same. absurd (let yes = c.stands_at.ensures.1 same in cc) in
     IsNext-none c.args.segment.now c.args.state c.args.here c.loop-here.shorter at_start c.loop-here.invariant.2 other
 
 pub returns : goal.returns
 returns c =
     let short : c.loop-here.shorter ≤ c.args.state = omega (arith, c.loop-here.invariant.0) in
-    IsNext-here c.args.segment.now c.args.state c.args.here c.loop-here.shorter short c.loop-here.invariant.1 c.loop-here.invariant.2 (c.stands_at.ensures.0 (cc))
+    IsNext-here c.args.segment.now c.args.state c.args.here c.loop-here.shorter short c.loop-here.invariant.1
+    c.loop-here.invariant.2 (c.stands_at.ensures.0 (cc))

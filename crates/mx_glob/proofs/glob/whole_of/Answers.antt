@@ -8,14 +8,19 @@ use Rattle.mx_glob.proofs.glob.whole_of.Goals as goal
 
 pub returns-then-pattern-len-clause-matches : goal.returns-then-pattern-len-clause-matches
 returns-then-pattern-len-clause-matches c =
-    let plain = (c.in_default.ensures {u = tt}).plain in
-    (λ never. cc, λ matched. absurd (c.if-pattern-len.true (((Matches-plain c.args.value.now c.args.pattern.now plain).0 matched).0 ∙ sym c.len.ensures.len)))
+    let plain = (c.in_default.ensures {u = tt}).plain in (
+      λ never. cc,
+      λ matched. absurd (c.if-pattern-len.true (((Matches-plain c.args.value.now c.args.pattern.now plain).0 matched).0
+          ∙ sym c.len.ensures.len)),
+    )
 
 pub returns-in_default-clause-matches : goal.returns-in_default-clause-matches
 returns-in_default-clause-matches c =
     let plain = (c.in_default.ensures {u = tt}).plain in
-    let same = Matches-plain c.args.value.now c.args.pattern.now plain in
-    (λ yes. same.1 (c.if-pattern-len.false ∙ c.len.ensures.len, c.agrees.ensures.value.0 yes), λ matched. c.agrees.ensures.value.1 (same.0 matched).1)
+    let same = Matches-plain c.args.value.now c.args.pattern.now plain in (
+      λ yes. same.1 (c.if-pattern-len.false ∙ c.len.ensures.len, c.agrees.ensures.value.0 yes),
+      λ matched. c.agrees.ensures.value.1 (same.0 matched).1,
+    )
 
 pub returns-then-first-len-clause-matches : goal.returns-then-first-len-clause-matches
 returns-then-first-len-clause-matches c =
@@ -24,7 +29,8 @@ returns-then-first-len-clause-matches c =
     let same = Matches-starred c.args.value.now c.in-Some.first.now c.in-Some.rest.now parts.0 in (
       λ never. cc,
       λ matched.
-          let room = FitsAt-in_text c.args.value.now c.in-Some.first.now 0 (omega arith) (same.0 (subst family parts.1 matched)).0 in
+          let room = FitsAt-in_text c.args.value.now c.in-Some.first.now 0 (omega arith)
+          (same.0 (subst family parts.1 matched)).0 in
           absurd (omega arith),
     )
 
@@ -44,7 +50,8 @@ returns-clause-matches c =
     let parts = (c.in-Some.ensures {u = tt}).parts in
     let family : List ℕ → Type 0 = λ p. Matches p c.args.value.now in
     let same = Matches-starred c.args.value.now c.in-Some.first.now c.in-Some.rest.now parts.0 in (
-      λ yes. subst family (sym parts.1) (same.1 (c.agrees-2.ensures.value.0 c.if-not-agrees.false, c.leads_on.ensures.value.0 yes)),
+      λ yes. subst family (sym parts.1)
+          (same.1 (c.agrees-2.ensures.value.0 c.if-not-agrees.false, c.leads_on.ensures.value.0 yes)),
       λ matched. c.leads_on.ensures.value.1 (same.0 (subst family parts.1 matched)).1,
     )
 

@@ -5,7 +5,8 @@ use Rattle.mx_glob.proofs.onward.find_onward.Given as goal
 
 abbrev pub invariant-loop-entered : goal.invariant-loop-entered
 invariant-loop-entered l = record {
-  reached : IsReached l.value l.wanted.segment.now l.wanted.begins l.wanted.ends l.from l.reached.place l.reached.size l.reached.before;
+  reached : IsReached l.value l.wanted.segment.now l.wanted.begins l.wanted.ends l.from l.reached.place l.reached.size
+      l.reached.before;
   made : IsTrue l.is_made → AreFalls l.wanted.segment.now l.falls (length l.wanted.segment.now);
   room : length l.falls ≡ length l.initial.falls;
   reads : RisesAtMost (l.reached.place - l.from) l.initial.meter l.meter;

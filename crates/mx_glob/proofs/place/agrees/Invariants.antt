@@ -5,4 +5,5 @@ use Rattle.mx_glob.proofs.place.agrees.Given as goal
 
 abbrev pub invariant-loop-k : goal.invariant-loop-k
 invariant-loop-k l =
-    (FitsAt l.value l.segment l.place ↔ FitsAt l.value (drop l.k l.segment) (l.place + l.k)) × RisesAtMost l.k l.initial.meter l.meter
+    (FitsAt l.value l.segment l.place ↔ FitsAt l.value (drop l.k l.segment) (l.place + l.k))
+    × RisesAtMost l.k l.initial.meter l.meter

@@ -8,5 +8,8 @@ returns-then-ends_word_at-clause-value c =
     (λ yes. LeadsOn-from_end_place _ _ _ c.loop-place.place c.requires.plain c.loop-place.invariant.0 here, λ on. cc)
 
 pub returns-clause-value : goal.returns-clause-value
-returns-clause-value c =
-    (λ never. cc, λ on. let found = LeadsOn-end_place _ _ _ c.requires.plain on in let room = found.2.place.in_text in absurd (c.loop-place.invariant.3 found.0 found.1 (omega arith) found.2))
+returns-clause-value c = (
+  λ never. cc,
+  λ on. let found = LeadsOn-end_place _ _ _ c.requires.plain on in let room = found.2.place.in_text in
+      absurd (c.loop-place.invariant.3 found.0 found.1 (omega arith) found.2),
+)

@@ -9,7 +9,8 @@ invariant-loop-segment l =
     (l.from ≤ l.reached)
     × (l.reached ≤ length l.value)
     × (length l.rest ≤ length l.pattern)
-    × (LeadsOn (ends_at l.end l.value) l.value l.pattern l.from ↔ LeadsOn (ends_at l.end l.value) l.value l.rest l.reached)
+    × (LeadsOn (ends_at l.end l.value) l.value l.pattern l.from
+    ↔ LeadsOn (ends_at l.end l.value) l.value l.rest l.reached)
     × RisesAtMost ((length l.pattern + 1) * (l.reached - l.from)) l.initial.meter l.meter
     × (IsExact l.pattern → IsExact l.rest × RisesAtMost (2 * (l.reached - l.from)) l.initial.meter l.meter)
     × (length l.falls ≡ length l.initial.falls)

@@ -6,6 +6,7 @@ use Rattle.mx_glob.proofs.rest.split_star.Goals as goal
 
 pub loop-place-preserved : goal.loop-place-preserved
 loop-place-preserved c =
-    let plain : c.index-pattern-place.result == star ≡ false = other_than_star c.index-pattern-place.result c.if-character-eq42.false in
+    let plain : c.index-pattern-place.result == star ≡ false =
+    other_than_star c.index-pattern-place.result c.if-character-eq42.false in
     rw (take_more c.args.pattern.now c.loop-place.place c.index-pattern-place.result (omega arith))
     (IsPlain-push _ _ c.loop-place.invariant (ap (λ x. x == star) (sym c.index-pattern-place.is) ∙ plain))

@@ -14,7 +14,10 @@ returns-then-steps-len-clause-word c =
     let found = c.in-Some.ensures {u = tt} in
     let tried = c.in-Ahead.ensures in
     let between = subst (λ n. NoneEnds text n c.loop-end.from end) e found.ruled_out in
-    let skipped = subst (λ n. NoneEnds text n (end + 1) (end + steps)) e (c.skip_last-steps.ensures.ruled_out text end found.found.2 found.found.1) in
-    let here : IsNameAt text name (end + 1 - length name) → ⊥ = subst (λ n. IsNameAt text n (end + 1 - length n) → ⊥) e tried.1 in
-    let none = step_rules_out text name c.loop-end.from end steps (end + 1 - length name) c.requires.some (omega (arith, found.found.0)) c.loop-end.invariant.none between here skipped in
+    let skipped = subst (λ n. NoneEnds text n (end + 1) (end + steps)) e
+    (c.skip_last-steps.ensures.ruled_out text end found.found.2 found.found.1) in
+    let here : IsNameAt text name (end + 1 - length name) → ⊥ =
+    subst (λ n. IsNameAt text n (end + 1 - length n) → ⊥) e tried.1 in
+    let none = step_rules_out text name c.loop-end.from end steps (end + 1 - length name) c.requires.some
+    (omega (arith, found.found.0)) c.loop-end.invariant.none between here skipped in
     (λ never. cc, λ word. absurd (HasWord-none text name (end + steps) c.requires.some (omega arith) none word))

@@ -4,4 +4,5 @@ use Rattle.mx_glob.proofs.skips.is_literal.Goals as goal
 
 pub loop-k-preserved : goal.loop-k-preserved
 loop-k-preserved c =
-    literal_more c.args.pattern.now c.loop-k.k c.at.result (omega arith) c.at.ensures.character (c.is_itself.ensures c.if-not-is_itself.false) c.loop-k.invariant
+    literal_more c.args.pattern.now c.loop-k.k c.at.result (omega arith) c.at.ensures.character
+    (c.is_itself.ensures c.if-not-is_itself.false) c.loop-k.invariant

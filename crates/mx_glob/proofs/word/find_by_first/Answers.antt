@@ -1,8 +1,10 @@
-use Rattle.std.proofs.Common.{◌≡◌, ◌+◌, ◌-◌, ◌*◌, ◌<◌, ◌==◌, ℕ, ◌∙◌, Bool, false, List, Some, length, slice_get, inl, inr, sym, ap, arith}
+use Rattle.std.proofs.Common.{◌≡◌, ◌+◌, ◌-◌, ◌*◌, ◌<◌, ◌==◌, ℕ, ◌∙◌, Bool, false, List, Some, length, slice_get, inl}
+use Rattle.std.proofs.Common.{inr, sym, ap, arith}
 use Rattle.std.proofs.lemmas.Bool.{cases_lt}
 use Rattle.mx_glob.specs.Glob.{question}
 use Rattle.mx_glob.specs.Leads.{IsWordPlace}
-use Rattle.mx_glob.proofs.LeadsLemmas.{FitsAt-first, character_before-next, length-from_first, none_before, none_below_next}
+use Rattle.mx_glob.proofs.LeadsLemmas.{FitsAt-first, character_before-next, length-from_first, none_before}
+use Rattle.mx_glob.proofs.LeadsLemmas.{none_below_next}
 use Rattle.mx_glob.proofs.ReadLemmas.{candidate_paid}
 use Rattle.mx_glob.proofs.word.find_by_first.Goals as goal
 

@@ -6,13 +6,23 @@ use Rattle.mx_glob.proofs.AutomatonLemmas.{StandsAt-from_fits, IsPlace-from_edge
 use Rattle.mx_glob.proofs.SearchLemmas.{HasWord-found}
 use Rattle.mx_glob.proofs.word.held_word.Goals as goal
 
-HasWord-empty : (text name : List ℕ) (found : Option ℕ) → length name ≡ 0 → IsFirstFrom (IsWordPlace text name true) 0 found → IsTrue (is_some found) ↔ HasWord name text
+HasWord-empty : (text name : List ℕ) (found : Option ℕ) → length name ≡ 0
+    → IsFirstFrom (IsWordPlace text name true) 0 found → IsTrue (is_some found) ↔ HasWord name text
 HasWord-empty text name found empty first =
     let exact : IsExact name = λ i e. let some = inside name i _ e in absurd (omega arith) in
     HasWord-found text name 0 found (λ j low here. absurd (omega arith)) (
     IsFirstFrom-same (IsWordPlace text name true) (IsEdged text name true true) 0 found
-    (λ k here. record { in_text = here.place.in_text; stands = StandsAt-from_fits text name k exact here.place.agrees; begins_word = λ yes. here.begins; ends_word = here.ends })
-    (λ k edged. record { place = IsPlace-from_edged text name true true k edged; begins = edged.begins_word refl; ends = edged.ends_word })
+    (λ k here. record {
+      in_text = here.place.in_text;
+      stands = StandsAt-from_fits text name k exact here.place.agrees;
+      begins_word = λ yes. here.begins;
+      ends_word = here.ends;
+    })
+    (λ k edged. record {
+      place = IsPlace-from_edged text name true true k edged;
+      begins = edged.begins_word refl;
+      ends = edged.ends_word;
+    })
     first)
 
 pub returns-then-is_empty-clause-word : goal.returns-then-is_empty-clause-word

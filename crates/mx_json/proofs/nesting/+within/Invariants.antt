@@ -5,9 +5,11 @@ use Rattle.mx_json.proofs.nesting.+within.Given as goal
 
 abbrev pub invariant-items_nest_within-loop-item : goal.invariant-items_nest_within-loop-item
 invariant-items_nest_within-loop-item l =
-    nat_le (items_depth (items_view l.items.items)) l.deepest ≡ nat_le (items_depth (items_view (drop l.item-index l.items.items))) l.deepest
+    nat_le (items_depth (items_view l.items.items)) l.deepest
+    ≡ nat_le (items_depth (items_view (drop l.item-index l.items.items))) l.deepest
 
 abbrev pub invariant-members_nest_within-loop-member :
     goal.invariant-members_nest_within-loop-member
 invariant-members_nest_within-loop-member l =
-    nat_le (members_depth (members_view l.members.entries)) l.deepest ≡ nat_le (members_depth (members_view l.member-iterator)) l.deepest
+    nat_le (members_depth (members_view l.members.entries)) l.deepest
+    ≡ nat_le (members_depth (members_view l.member-iterator)) l.deepest

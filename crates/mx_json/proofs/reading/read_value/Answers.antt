@@ -9,4 +9,7 @@ returns-in-Ok c = reading-of c.args.bytes.now (view c.in-Ok.value) c.in-Ok.ensur
 
 pub returns-else-is_memory : goal.returns-else-is_memory
 returns-else-is_memory c =
-    inl (reading-refused c.args.bytes.now (c.in-Err.ensures.err (λ memory. false≢true (c.if-is_memory.ensures.1 memory))), refl)
+    inl (
+      reading-refused c.args.bytes.now (c.in-Err.ensures.err (λ memory. false≢true (c.if-is_memory.ensures.1 memory))),
+      refl,
+    )

@@ -9,6 +9,8 @@ use Rattle.mx_json.proofs.user_id.is_localpart.Goals as goal
 pub returns-then-not-is_empty : goal.returns-then-not-is_empty
 returns-then-not-is_empty c =
     let bytes = c.args.part.now in
-    let each : c.all.result ≡ list_all is_localpart_byte bytes = all_from_yields_List is_localpart_byte _ _ c.all.result c.all.ensures.ran (YieldsList-from_bytes bytes cc) (λ x b q k. search (rules, tests)) in
-    let some : nat_lt 0 (length bytes) ≡ true = lt-ltb 0 (length bytes) (omega (arith, eqb-false (length bytes) 0 (sym c.if-not-is_empty.ensures))) in
+    let each : c.all.result ≡ list_all is_localpart_byte bytes = all_from_yields_List is_localpart_byte _ _ c.all.result
+    c.all.ensures.ran (YieldsList-from_bytes bytes cc) (λ x b q k. search (rules, tests)) in
+    let some : nat_lt 0 (length bytes) ≡ true =
+    lt-ltb 0 (length bytes) (omega (arith, eqb-false (length bytes) 0 (sym c.if-not-is_empty.ensures))) in
     rw (some, each)

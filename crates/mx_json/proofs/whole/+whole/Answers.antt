@@ -5,18 +5,25 @@ use Rattle.serde_json.specs.View.{items_view, members_view, number_view}
 use Rattle.serde_json.proofs.Views.{Entry}
 use Rattle.mx_json.specs.declared.value.Json.{Text, Whole}
 use Rattle.mx_json.specs.Reading.{whole_items, whole_number_of, whole_pairs}
-use Rattle.mx_json.proofs.WholeLemmas.{told_by_part, to_z-of_whole, whole_items-all, whole_items-more, whole_items-stops, whole_json-Array, whole_json-Array_stops, whole_json-Bool, whole_json-Null, whole_json-Number, whole_json-Object, whole_json-Object_stops, whole_json-String, whole_json-no_whole, whole_pairs-all, whole_pairs-more, whole_pairs-stops}
+use Rattle.mx_json.proofs.WholeLemmas.{told_by_part, to_z-of_whole, whole_items-all, whole_items-more}
+use Rattle.mx_json.proofs.WholeLemmas.{whole_items-stops, whole_json-Array, whole_json-Array_stops, whole_json-Bool}
+use Rattle.mx_json.proofs.WholeLemmas.{whole_json-Null, whole_json-Number, whole_json-Object, whole_json-Object_stops}
+use Rattle.mx_json.proofs.WholeLemmas.{whole_json-String, whole_json-no_whole, whole_pairs-all, whole_pairs-more}
+use Rattle.mx_json.proofs.WholeLemmas.{whole_pairs-stops}
 use Rattle.mx_json.proofs.whole.+whole.Goals as goal
 
 pub whole_json-returns-in_err-whole_items-in-Array : goal.whole_json-returns-in_err-whole_items-in-Array
 whole_json-returns-in_err-whole_items-in-Array t c =
     let p = err_from_is_err_and c.from_residual.result c.from_residual.ensures.1 in
-    rw (p.1, p.2, c.in-Array.is) (told_by_part (whole_json-Array_stops c.in-Array.items _) c.in_err-whole_items-in-Array.ensures)
+    rw (p.1, p.2, c.in-Array.is)
+    (told_by_part (whole_json-Array_stops c.in-Array.items _) c.in_err-whole_items-in-Array.ensures)
 
 pub whole_json-returns-in_err-whole_pairs-in-Object : goal.whole_json-returns-in_err-whole_pairs-in-Object
 whole_json-returns-in_err-whole_pairs-in-Object t c =
-    let p = err_from_is_err_and c.from_residual-in_err-whole_pairs-in-Object.result c.from_residual-in_err-whole_pairs-in-Object.ensures.1 in
-    rw (p.1, p.2, c.in-Object.is) (told_by_part (whole_json-Object_stops c.in-Object.members _) c.in_err-whole_pairs-in-Object.ensures)
+    let p = err_from_is_err_and c.from_residual-in_err-whole_pairs-in-Object.result
+    c.from_residual-in_err-whole_pairs-in-Object.ensures.1 in
+    rw (p.1, p.2, c.in-Object.is)
+    (told_by_part (whole_json-Object_stops c.in-Object.members _) c.in_err-whole_pairs-in-Object.ensures)
 
 pub whole_json-returns-in-Null : goal.whole_json-returns-in-Null
 whole_json-returns-in-Null t c = rw c.in-Null.is whole_json-Null
@@ -28,10 +35,12 @@ pub whole_json-returns-in-Some : goal.whole_json-returns-in-Some
 whole_json-returns-in-Some t c =
     let n = c.in-Number.number in
     let is : whole_number_of (number_view n) ≡ Some c.in-Some.number = sym c.whole_number_of.ensures ∙ c.in-Some.is in
-    rw c.in-Number.is (whole_json-Number n c.in-Some.number is ∙ ap (λ z. Ok (Whole z)) (sym (to_z-of_whole (number_view n) c.in-Some.number is)))
+    rw c.in-Number.is (whole_json-Number n c.in-Some.number is
+    ∙ ap (λ z. Ok (Whole z)) (sym (to_z-of_whole (number_view n) c.in-Some.number is)))
 
 pub whole_json-returns-in-None : goal.whole_json-returns-in-None
-whole_json-returns-in-None t c = inl (rw c.in-Number.is (whole_json-no_whole c.in-Number.number (sym c.whole_number_of.ensures ∙ c.in-None.is)))
+whole_json-returns-in-None t c =
+    inl (rw c.in-Number.is (whole_json-no_whole c.in-Number.number (sym c.whole_number_of.ensures ∙ c.in-None.is)))
 
 pub whole_json-returns-in-String : goal.whole_json-returns-in-String
 whole_json-returns-in-String t c =
@@ -96,4 +105,5 @@ whole_pairs-loop-key-preserved t c =
 
 pub whole_pairs-returns : goal.whole_pairs-returns
 whole_pairs-returns t c =
-    c.loop-key.invariant ∙ (ap (λ es. whole_pairs c.loop-key.done (members_view es)) c.in-None.ensures.steps.0 ∙ whole_pairs-all c.loop-key.done)
+    c.loop-key.invariant ∙ (ap (λ es. whole_pairs c.loop-key.done (members_view es)) c.in-None.ensures.steps.0
+    ∙ whole_pairs-all c.loop-key.done)

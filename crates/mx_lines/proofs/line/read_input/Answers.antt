@@ -12,4 +12,5 @@ returns-in-Err-BadField-clause-command c form is =
 
 pub returns-in-Ok-clause-ready : goal.returns-in-Ok-clause-ready
 returns-in-Ok-clause-ready c =
-    ready-read c.args.line c.in-Ok.input c.requires.built c.in-Ok.ensures.input c.in-Ok.ensures.valid c.in-Ok.ensures.normal
+    ready-read c.args.line c.in-Ok.input c.requires.built c.in-Ok.ensures.input c.in-Ok.ensures.valid
+    c.in-Ok.ensures.normal

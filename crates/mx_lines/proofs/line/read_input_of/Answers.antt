@@ -10,6 +10,7 @@ pub returns-in_default : goal.returns-in_default
 returns-in_default c =
     let found = command_in-built c.args.line c.args.word c.requires.word c.in_default.not-Pusher in
     record {
-      command = subst (λ expected. ReadsAs expected c.read_input.result) (sym found.2) (c.read_input.ensures.command found.0 found.1);
+      command = subst (λ expected. ReadsAs expected c.read_input.result) (sym found.2)
+          (c.read_input.ensures.command found.0 found.1);
       ready = c.read_input.ensures.ready;
     }

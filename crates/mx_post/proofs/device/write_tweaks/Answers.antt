@@ -11,9 +11,11 @@ returns-in_ok-push-in-Some c =
     let out = c.args.out.now.items in
     c.in_ok-push-in-Some.ensures.items
     ∙ ap (λ text. text ++ codes "}")
-    (c.in_ok-write_text-in-Some.ensures ∙ (λ j. out ++ (c.before_sound.ensures j ++ canonical (Text (c.as_str.ensures j)))))
+    (c.in_ok-write_text-in-Some.ensures
+    ∙ (λ j. out ++ (c.before_sound.ensures j ++ canonical (Text (c.as_str.ensures j)))))
     ∙ tweaks-with out tweaks.highlight c.in-Some.sound
-    ∙ ap (λ (sound : Option (List ℕ)). out ++ canonical (tweaks_value record { highlight = tweaks.highlight; sound = sound }))
+    ∙ ap (λ (sound : Option (List ℕ)). out
+    ++ canonical (tweaks_value record { highlight = tweaks.highlight; sound = sound }))
     (sym c.in-Some.is)
 
 pub returns-in_ok-extend_from_slice-in-None : goal.returns-in_ok-extend_from_slice-in-None
@@ -22,5 +24,6 @@ returns-in_ok-extend_from_slice-in-None c =
     let out = c.args.out.now.items in
     c.in_ok-extend_from_slice-in-None.ensures.items
     ∙ ap (λ text. out ++ text) (c.silent_text.ensures ∙ tweaks-without tweaks.highlight)
-    ∙ ap (λ (sound : Option (List ℕ)). out ++ canonical (tweaks_value record { highlight = tweaks.highlight; sound = sound }))
+    ∙ ap (λ (sound : Option (List ℕ)). out
+    ++ canonical (tweaks_value record { highlight = tweaks.highlight; sound = sound }))
     (sym c.in-None.is)

@@ -15,5 +15,6 @@ returns-in_ok-extend_from_slice-in-Some c =
     (λ _ is.
     is ∙ ap (λ before. before ++ text) c.in_ok-extend_from_slice-in-Some.ensures.items
     ∙ append_assoc out (codes ",\"tweaks\":") text
-    ∙ ap (λ after. out ++ after) (tweaks-told c.in-Some.tweaks.now (option_copied c.args.tweaks) (ap option_copied c.in-Some.is)))
+    ∙ ap (λ after. out ++ after)
+    (tweaks-told c.in-Some.tweaks.now (option_copied c.args.tweaks) (ap option_copied c.in-Some.is)))
     c.write_tweaks.ensures

@@ -11,6 +11,7 @@ returns c =
     let pending = c.args.pending.now in
     let tweaks = c.args.tweaks.now in
     let a = c.in_ok-extend_from_slice.ensures.items ∙ (λ j. c.new-body.ensures.items j ++ codes "{\"notification\":") in
-    let b = c.in_ok-write_notification.ensures ∙ (λ j. a j ++ canonical (notification_value spec http pending tweaks c.args.unread)) in
+    let b = c.in_ok-write_notification.ensures
+    ∙ (λ j. a j ++ canonical (notification_value spec http pending tweaks c.args.unread)) in
     c.in_ok-push.ensures.items ∙ ap (λ text. text ++ codes "}") b
     ∙ body-written spec http pending tweaks c.args.unread

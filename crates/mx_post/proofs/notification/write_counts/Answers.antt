@@ -9,5 +9,6 @@ returns c =
     c.in_ok-push.ensures.items
     ∙ ap (λ text. text ++ codes "}")
     (c.in_ok-write_number.ensures
-    ∙ ap (λ text. text ++ (codes "{\"unread\":" ++ canonical (Whole (pos c.args.unread)))) c.in_ok-extend_from_slice.ensures.items)
+    ∙ ap (λ text. text ++ (codes "{\"unread\":" ++ canonical (Whole (pos c.args.unread))))
+    c.in_ok-extend_from_slice.ensures.items)
     ∙ counts-written c.args.out.now.items c.args.before.now c.args.unread

@@ -14,7 +14,8 @@ returns c =
     let id = c.as_text.ensures.text ∙ c.event_id.ensures ∙ ap event_id_of event in
     let room = c.as_text-2.ensures.text ∙ c.room_id.ensures ∙ ap room_id_of event in
     let a = c.in_ok-write_counts.ensures in
-    let b = c.in_ok-write_devices.ensures ∙ (λ j. a j ++ (codes ",\"devices\":" ++ canonical (devices_value spec http None))) in
+    let b =
+    c.in_ok-write_devices.ensures ∙ (λ j. a j ++ (codes ",\"devices\":" ++ canonical (devices_value spec http None))) in
     let d = c.in_ok-write_text.ensures ∙ (λ j. b j ++ (codes ",\"event_id\":" ++ canonical (Text (id j)))) in
     let e = c.in_ok-write_text-2.ensures ∙ (λ j. d j ++ (codes ",\"room_id\":" ++ canonical (Text (room j)))) in
     c.in_ok-push.ensures.items ∙ ap (λ text. text ++ codes "}") e

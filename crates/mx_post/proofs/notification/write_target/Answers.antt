@@ -12,6 +12,8 @@ returns-in-Some c =
     let told : List ℕ × List ℕ = (c.in-Some.member.now, c.in-Some.field-0-1.now) in
     let same : c.eq.result ≡ bytes_eq told.0 user = search rules in
     IfOk-weaker c.write_truth.result
-    (λ _. c.write_truth.new.out.items ≡ c.args.out.now.items ++ (codes ",\"user_is_target\":" ++ canonical (Truth c.eq.result))) _
-    (λ _ is. is ∙ ap (λ text. c.args.out.now.items ++ text) (target-written user c.args.event.now told c.eq.result c.in-Some.ensures same))
+    (λ _. c.write_truth.new.out.items
+    ≡ c.args.out.now.items ++ (codes ",\"user_is_target\":" ++ canonical (Truth c.eq.result))) _
+    (λ _ is. is ∙ ap (λ text. c.args.out.now.items ++ text)
+    (target-written user c.args.event.now told c.eq.result c.in-Some.ensures same))
     c.write_truth.ensures

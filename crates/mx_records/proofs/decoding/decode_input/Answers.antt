@@ -15,5 +15,6 @@ not-both b is isnt = absurd cc
 
 pub returns-else-branch-clause-one : goal.returns-else-branch-clause-one
 returns-else-branch-clause-one c entry of =
-    let whole = (spelled-entry _ _ entry c.in-Some.input c.requires of (sym c.in-Some.is ∙ c.in_ok-input.ensures.input)).1 in
+    let whole =
+    (spelled-entry _ _ entry c.in-Some.input c.requires of (sym c.in-Some.is ∙ c.in_ok-input.ensures.input)).1 in
     absurd (not-both _ (c.in_ok-is_payload.ensures.1 whole) c.if-branch.false)

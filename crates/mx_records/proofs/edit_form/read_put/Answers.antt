@@ -5,8 +5,10 @@ use Rattle.mx_json.specs.declared.value.Json.{Json}
 use Rattle.mx_json.specs.Json.{text_at}
 use Rattle.mx_records.specs.declared.field_name.FieldName.{FieldName}
 use Rattle.mx_records.specs.declared.field_name.FieldName.TheVariants.{Conditions, Pattern}
-use Rattle.mx_records.specs.Forms.{actions_field, actions_in, anchor_fields, anchors_form, given_list, has_list_or_none, has_text_or_none, put_fields, put_form, rule_fields, rule_form}
-use Rattle.mx_records.proofs.FormLemmas.{AreRight, found-right, given-right, gives-refused, refused-first, refused-next, right-both}
+use Rattle.mx_records.specs.Forms.{actions_field, actions_in, anchor_fields, anchors_form, given_list, has_list_or_none}
+use Rattle.mx_records.specs.Forms.{has_text_or_none, put_fields, put_form, rule_fields, rule_form}
+use Rattle.mx_records.proofs.FormLemmas.{AreRight, found-right, given-right, gives-refused, refused-first, refused-next}
+use Rattle.mx_records.proofs.FormLemmas.{right-both}
 use Rattle.mx_records.proofs.edit_form.read_put.Goals as goal
 
 -- the fields, one by one

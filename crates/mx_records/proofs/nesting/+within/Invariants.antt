@@ -11,4 +11,5 @@ invariant-list_nests_within-loop-item l =
 abbrev pub invariant-object_nests_within-loop-member : goal.invariant-object_nests_within-loop-member
 invariant-object_nests_within-loop-member l =
     nat_le (suc (largest (map (λ pair. pair.1) (map (with_value depth_of) l.object.pairs)))) l.deepest
-    ≡ nat_le (suc (largest (map (λ pair. pair.1) (map (with_value depth_of) (drop l.member-index l.object.pairs))))) l.deepest
+    ≡ nat_le
+    (suc (largest (map (λ pair. pair.1) (map (with_value depth_of) (drop l.member-index l.object.pairs))))) l.deepest

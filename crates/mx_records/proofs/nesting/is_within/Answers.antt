@@ -17,7 +17,8 @@ returns-in-Event c =
 pub returns-in-Edit : goal.returns-in-Edit
 returns-in-Edit c =
     subst (λ (input : Input). c.edit_is_within.result ≡ nat_le (depth_of (normal_of input)) 100) (sym c.in-Edit.is)
-    (within-object (edit_fields c.in-Edit.user c.in-Edit.edit) c.edit_is_within.result (c.edit_is_within.ensures c.in-Edit.user))
+    (within-object (edit_fields c.in-Edit.user c.in-Edit.edit) c.edit_is_within.result
+    (c.edit_is_within.ensures c.in-Edit.user))
 
 pub returns-in-Receipt : goal.returns-in-Receipt
 returns-in-Receipt c =
@@ -28,8 +29,10 @@ returns-in-Receipt c =
 
 pub returns-in-Some : goal.returns-in-Some
 returns-in-Some c =
-    subst (λ (input : Input). c.object_nests_within.result ≡ nat_le (depth_of (normal_of input)) 100) (sym c.in-Pusher.is)
-    (posting-within c.in-Pusher.spec c.in-Some.http c.object_nests_within.result c.in-Some.is c.object_nests_within.ensures)
+    subst (λ (input : Input). c.object_nests_within.result ≡ nat_le (depth_of (normal_of input)) 100)
+    (sym c.in-Pusher.is)
+    (posting-within c.in-Pusher.spec c.in-Some.http c.object_nests_within.result c.in-Some.is
+    c.object_nests_within.ensures)
 
 pub returns-in-None : goal.returns-in-None
 returns-in-None c =

@@ -8,7 +8,8 @@ use Rattle.mx_records.proofs.normal.edit_value.Goals as goal
 pub returns-in_ok-object-in-Put : goal.returns-in_ok-object-in-Put
 returns-in_ok-object-in-Put c =
     let put = c.in-Put in
-    subst (λ (edit : Edit). IfOk c.put_value.result (λ json. json ≡ normal_of (EditInput c.args.user.now edit))) (sym put.is)
+    subst (λ (edit : Edit). IfOk c.put_value.result (λ json. json ≡ normal_of (EditInput c.args.user.now edit)))
+    (sym put.is)
     (joined
     (list_field (codes "actions") put.actions ∷ text_if_given (codes "after") put.after
     ∷ text_if_given (codes "before") put.before ∷ text_field (codes "cmd") (codes "rule_put") ∷ [])

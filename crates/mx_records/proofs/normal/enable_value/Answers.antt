@@ -14,5 +14,6 @@ returns c =
     let one = appended [] [] cmd _ _ c.new.ensures c.in_ok-object.ensures in
     let two = appended [] cmd enabled _ _ one c.in_ok-object-2.ensures in
     let three = appended [] (cmd ++ enabled) (kind c.kind_text.result.now) _ _ two c.in_ok-object-3.ensures in
-    subst (λ text. IfOk c.with_rule.result (λ json. json ≡ object_of (cmd ++ enabled ++ kind text ++ rest))) c.kind_text.ensures
+    subst (λ text. IfOk c.with_rule.result (λ json. json ≡ object_of (cmd ++ enabled ++ kind text ++ rest)))
+    c.kind_text.ensures
     (joined (cmd ++ enabled ++ kind c.kind_text.result.now) rest _ c.with_rule.result three c.with_rule.ensures)

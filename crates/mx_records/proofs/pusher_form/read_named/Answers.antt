@@ -20,7 +20,8 @@ pub returns-in_err-user : goal.returns-in_err-user
 returns-in_err-user c =
     let json = c.args.json.now in
     gives-refused _ _ _ c.from_residual.ensures
-    (refused-first (user json) ((Pushkey, is_pushkey (pushkey_in json)) ∷ rest json) (user_in json) _ _ c.in_err-user.ensures)
+    (refused-first (user json) ((Pushkey, is_pushkey (pushkey_in json)) ∷ rest json)
+    (user_in json) _ _ c.in_err-user.ensures)
 
 pub returns-in_err-pushkey : goal.returns-in_err-pushkey
 returns-in_err-pushkey c =

@@ -4,7 +4,8 @@ use Rattle.mx_records.specs.declared.field_name.FieldName.{FieldName}
 use Rattle.mx_records.specs.declared.field_name.FieldName.TheVariants.{ReceiptKind, ThreadId}
 use Rattle.mx_records.specs.declared.input.Input.TheVariants.{Receipt}
 use Rattle.mx_records.specs.Forms.{given_thread, has_thread_or_none, privacy_in, read_fields, read_form, receipt_form}
-use Rattle.mx_records.proofs.FormLemmas.{AreRight, found-right, given-right, gives-refused, refused-first, refused-next, right-both}
+use Rattle.mx_records.proofs.FormLemmas.{AreRight, found-right, given-right, gives-refused, refused-first, refused-next}
+use Rattle.mx_records.proofs.FormLemmas.{right-both}
 use Rattle.mx_records.proofs.receipt_form.read_receipt.Goals as goal
 
 abbrev kind : Json → List (FieldName × Bool)

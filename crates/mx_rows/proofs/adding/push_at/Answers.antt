@@ -3,7 +3,8 @@ use Rattle.indexmap.specs.IndexMap.{set_value_at}
 use Rattle.mx_rows.specs.declared.thread_rows.ThreadRows.{ThreadRows}
 use Rattle.mx_rows.specs.Plain.{InOrder, is_spent, start_at}
 use Rattle.mx_rows.specs.Rows.{has_rows, start_of}
-use Rattle.mx_rows.proofs.EntryLemmas.{InOrder-same_starts, InOrder-settled, map-set_value_at, no_rows, settled, some_at, value_at}
+use Rattle.mx_rows.proofs.EntryLemmas.{InOrder-same_starts, InOrder-settled, map-set_value_at, no_rows, settled}
+use Rattle.mx_rows.proofs.EntryLemmas.{some_at, value_at}
 use Rattle.mx_rows.proofs.RowLemmas.{start_of-push}
 use Rattle.std.proofs.lemmas.Bool.{or_left}
 use Rattle.mx_rows.specs.Plain.{are_needed}

@@ -8,7 +8,8 @@ use Rattle.mx_rows.specs.declared.thread_rows.ThreadRows.{ThreadRows}
 use Rattle.mx_rows.specs.Plain.{reserved_in, start_at}
 use Rattle.mx_rows.specs.Rows.{start_of}
 use Rattle.mx_rows.specs.Threads.{same_thread, same_thread-equiv}
-use Rattle.mx_rows.proofs.EntryLemmas.{InOrder-same_starts, found_at, map-set_value_at, or_where, read_after, read_same, some_same}
+use Rattle.mx_rows.proofs.EntryLemmas.{InOrder-same_starts, found_at, map-set_value_at, or_where, read_after, read_same}
+use Rattle.mx_rows.proofs.EntryLemmas.{some_same}
 use Rattle.mx_rows.specs.Rows.{has_rows}
 use Rattle.mx_rows.specs.Plain.{Entry}
 use Rattle.mx_rows.proofs.NeededLemmas.{need, needed-at, needed-written, or_more}

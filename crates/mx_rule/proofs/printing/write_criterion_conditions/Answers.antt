@@ -11,4 +11,5 @@ returns-in_ok-write_conditions c =
     c.in_ok-write_conditions.ensures
     ∙ ap (λ before. before ++ text) c.in_ok-extend_from_slice.ensures.items
     ∙ append_assoc c.args.out.now.items (codes ",\"conditions\":") text
-    ∙ ap (λ after. c.args.out.now.items ++ after) (conditions_text-is c.args.criterion.now c.as_slice.result.now (c.in-Conditions.is ∙ ap Conditions (sym c.as_slice.ensures)))
+    ∙ ap (λ after. c.args.out.now.items ++ after) (conditions_text-is c.args.criterion.now c.as_slice.result.now
+    (c.in-Conditions.is ∙ ap Conditions (sym c.as_slice.ensures)))

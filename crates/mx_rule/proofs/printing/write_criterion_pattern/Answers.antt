@@ -11,4 +11,5 @@ returns-in_ok-write_text c =
     c.in_ok-write_text.ensures
     ∙ ap (λ before. before ++ text) c.in_ok-extend_from_slice.ensures.items
     ∙ append_assoc c.args.out.now.items (codes ",\"pattern\":") text
-    ∙ ap (λ after. c.args.out.now.items ++ after) (pattern_text-is c.args.criterion.now c.as_str.result.now (c.in-Word.is ∙ ap Word (sym c.as_str.ensures)))
+    ∙ ap (λ after. c.args.out.now.items ++ after)
+    (pattern_text-is c.args.criterion.now c.as_str.result.now (c.in-Word.is ∙ ap Word (sym c.as_str.ensures)))

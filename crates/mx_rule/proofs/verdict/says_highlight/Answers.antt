@@ -6,5 +6,6 @@ use Rattle.mx_rule.proofs.verdict.says_highlight.Goals as goal
 
 pub loop-action-preserved : goal.loop-action-preserved
 loop-action-preserved c =
-    let more = last_said-more highlight_in c.args.actions.now c.loop-action.action-index c.action-item.result (omega arith) c.action-item.is in
+    let more = last_said-more highlight_in c.args.actions.now c.loop-action.action-index c.action-item.result
+    (omega arith) c.action-item.is in
     c.or-said.ensures ∙ ap₂ option_or c.highlight_in.ensures c.loop-action.invariant ∙ sym more

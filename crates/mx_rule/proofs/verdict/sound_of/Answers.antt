@@ -6,7 +6,8 @@ use Rattle.mx_rule.proofs.verdict.sound_of.Goals as goal
 
 pub loop-action-preserved : goal.loop-action-preserved
 loop-action-preserved c =
-    let more = last_said-more sound_in c.args.actions.now c.loop-action.action-index c.action-item.result (omega arith) c.action-item.is in
+    let more = last_said-more sound_in c.args.actions.now c.loop-action.action-index c.action-item.result
+    (omega arith) c.action-item.is in
     ap (option_map option_copied) c.or-said.ensures
     ∙ option_map-option_or option_copied c.sound_in.result c.loop-action.said
     ∙ ap₂ option_or c.sound_in.ensures c.loop-action.invariant

@@ -25,10 +25,12 @@ returns-in-Ok-false-clause-read g c =
     let so_far = c.loop-count.invariant.so_far in (
       so_far.0,
       read_all g.D.Disk.seen g.D.Disk.may_leave c.args.journal.now c.loop-count.journal
-          c.read_entry.new.journal c.read_entry.new.engine.server c.loop-count.engine.server c.read_entry.new.engine.shown
+          c.read_entry.new.journal c.read_entry.new.engine.server c.loop-count.engine.server
+          c.read_entry.new.engine.shown
           c.loop-count.engine.shown c.loop-count.count so_far.0 c.read_entry.ensures.server
           (c.in-Ok-false.ensures.end_shown (rw c.in-Ok-false.field-0-test refl)) so_far.1
-          (λ content payloads had. c.in-Ok-false.ensures.end_stands content payloads (rw c.in-Ok-false.field-0-test refl) had)
+          (λ content payloads had.
+          c.in-Ok-false.ensures.end_stands content payloads (rw c.in-Ok-false.field-0-test refl) had)
           (λ content payloads had alike. c.in-Ok-false.ensures.end_rests content payloads
           (rw c.in-Ok-false.field-0-test refl) had alike)
           (λ image may. (c.loop-count.invariant.only_reads.images image).0 may),

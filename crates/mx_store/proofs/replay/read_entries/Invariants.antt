@@ -10,7 +10,8 @@ invariant-loop-count g l = record {
   server : l.engine.server ≡ l.fn.engine.server;
   reading : l.journal.phase ≡ Reading;
   staged : l.journal.staged ≡ l.fn.journal.staged;
-  only_reads : OnlyReads g.D.Disk.same_disk g.D.Disk.seen g.D.Disk.may_leave g.D.Disk.moment g.D.Disk.left_since l.fn.journal.disk l.journal.disk;
+  only_reads : OnlyReads g.D.Disk.same_disk g.D.Disk.seen g.D.Disk.may_leave g.D.Disk.moment g.D.Disk.left_since
+      l.fn.journal.disk l.journal.disk;
   faults : g.D.Disk.faults l.journal.disk ≡ g.D.Disk.faults l.fn.journal.disk;
   so_far : (h : History) × HasReadSoFar g.D.Disk.seen l.fn.journal l.journal l.engine.server l.engine.shown l.count h;
 }

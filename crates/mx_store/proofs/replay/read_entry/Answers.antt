@@ -13,7 +13,8 @@ returns-in-Ok-clause-more g c = λ h knows is.
     read_more g.D.Disk.seen c.args.journal.now c.next_record.new.self c.accept_payload.new.engine.server
     c.args.engine.now.server c.accept_payload.new.engine.shown h c.as_slice.result.now c.in-Ok.ensures.server
     knows.valid (c.in-Ok.ensures.accepted h knows) (c.in-Ok.ensures.few h knows)
-    (λ content had. subst (λ (p : List ℕ). HasRead g.D.Disk.seen c.next_record.new.self content (payloads_of h ++ p ∷ []))
+    (λ content had.
+    subst (λ (p : List ℕ). HasRead g.D.Disk.seen c.next_record.new.self content (payloads_of h ++ p ∷ []))
     (sym c.as_slice.ensures.value)
     (c.in-Ok-true.ensures.payload content (payloads_of h) had (rw c.in-Ok-true.field-0-test refl)))
 

@@ -21,7 +21,8 @@ pub returns-then-stop-gone-clause-rows : goal.returns-then-stop-gone-clause-rows
 returns-then-stop-gone-clause-rows c =
     let b = c.self.inside in
     let x = c.args.position in
-    let split = split_of b x c.walk-stop.result.passed c.walk-stop.result.next _ c.deref.ensures.value c.walk-stop.ensures in
+    let split =
+    split_of b x c.walk-stop.result.passed c.walk-stop.result.next _ c.deref.ensures.value c.walk-stop.ensures in
     subst (λ (kept : Kept). block_rows kept ≡ above x (block_rows kept)) c.self.view_is
     (cut_none-rows b.highlights x c.walk-stop.result.passed c.walk-stop.result.next b.gone
     (packed_positions (kept_of b)) split c.if-stop-gone.true)
@@ -30,7 +31,8 @@ pub returns-then-stop-gone-clause-dropped : goal.returns-then-stop-gone-clause-d
 returns-then-stop-gone-clause-dropped c =
     let b = c.self.inside in
     let x = c.args.position in
-    let split = split_of b x c.walk-stop.result.passed c.walk-stop.result.next _ c.deref.ensures.value c.walk-stop.ensures in
+    let split =
+    split_of b x c.walk-stop.result.passed c.walk-stop.result.next _ c.deref.ensures.value c.walk-stop.ensures in
     ap counts_in (sym (cut_none-dropped b.highlights x c.walk-stop.result.passed c.walk-stop.result.next b.gone
     (packed_positions (kept_of b)) split c.if-stop-gone.true))
     ∙ ap (λ (kept : Kept). counts_in (upto x (block_rows kept))) c.self.view_is
@@ -39,7 +41,8 @@ pub minus-self-inside-requires-clause-notify : goal.minus-self-inside-requires-c
 minus-self-inside-requires-clause-notify c =
     let b = c.self.inside in
     let x = c.args.position in
-    let split = split_of b x c.walk-stop.result.passed c.walk-stop.result.next _ c.deref.ensures.value c.walk-stop.ensures in
+    let split =
+    split_of b x c.walk-stop.result.passed c.walk-stop.result.next _ c.deref.ensures.value c.walk-stop.ensures in
     let dropped = ap (λ (counts : Counts). counts.notify) (cut_counts b.highlights x c.walk-stop.result.passed
     c.walk-stop.result.next b.gone (packed_positions (kept_of b)) split (omega arith)) in
     let sums = ap (λ (counts : Counts). counts.notify) c.self.invariant.sums in
@@ -50,7 +53,8 @@ pub minus-self-inside-requires-clause-highlight : goal.minus-self-inside-require
 minus-self-inside-requires-clause-highlight c =
     let b = c.self.inside in
     let x = c.args.position in
-    let split = split_of b x c.walk-stop.result.passed c.walk-stop.result.next _ c.deref.ensures.value c.walk-stop.ensures in
+    let split =
+    split_of b x c.walk-stop.result.passed c.walk-stop.result.next _ c.deref.ensures.value c.walk-stop.ensures in
     let dropped = ap (λ (counts : Counts). counts.highlight) (cut_counts b.highlights x c.walk-stop.result.passed
     c.walk-stop.result.next b.gone (packed_positions (kept_of b)) split (omega arith)) in
     let sums = ap (λ (counts : Counts). counts.highlight) c.self.invariant.sums in
@@ -103,7 +107,8 @@ pub returns-clause-rows : goal.returns-clause-rows
 returns-clause-rows c =
     let b = c.self.inside in
     let x = c.args.position in
-    let split = split_of b x c.walk-stop.result.passed c.walk-stop.result.next _ c.deref.ensures.value c.walk-stop.ensures in
+    let split =
+    split_of b x c.walk-stop.result.passed c.walk-stop.result.next _ c.deref.ensures.value c.walk-stop.ensures in
     sym (cut_rows b.highlights x c.walk-stop.result.passed c.walk-stop.result.next b.gone (packed_positions (kept_of b))
     split (omega arith))
     ∙ ap (λ (kept : Kept). above x (block_rows kept)) c.self.view_is
@@ -112,7 +117,8 @@ pub returns-clause-dropped : goal.returns-clause-dropped
 returns-clause-dropped c =
     let b = c.self.inside in
     let x = c.args.position in
-    let split = split_of b x c.walk-stop.result.passed c.walk-stop.result.next _ c.deref.ensures.value c.walk-stop.ensures in
+    let split =
+    split_of b x c.walk-stop.result.passed c.walk-stop.result.next _ c.deref.ensures.value c.walk-stop.ensures in
     (λ i. record { notify = c.walk-stop.result.passed - b.gone; highlight = c.count_marked.ensures i })
     ∙ sym (cut_counts b.highlights x c.walk-stop.result.passed c.walk-stop.result.next b.gone
     (packed_positions (kept_of b)) split (omega arith))

@@ -1,4 +1,5 @@
-use Rattle.std.proofs.Common.{◌+◌, ◌≤◌, Bool, true, cond, List, length, length-append, sym, subst, ap, arith, [], ◌∷◌, ◌++◌, false, ◌∙◌}
+use Rattle.std.proofs.Common.{◌+◌, ◌≤◌, Bool, true, cond, List, length, length-append, sym, subst, ap, arith, [], ◌∷◌}
+use Rattle.std.proofs.Common.{◌++◌, false, ◌∙◌}
 use Rattle.mx_rows.specs.declared.row.Row.{Row}
 use Rattle.mx_rows.specs.Threads.{same_thread}
 use Rattle.mx_blocks.specs.Entries.{hot_in, reserved_in, rows_in}

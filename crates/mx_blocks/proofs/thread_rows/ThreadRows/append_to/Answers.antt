@@ -1,4 +1,5 @@
-use Rattle.std.proofs.Common.{◌≡◌, ◌+◌, [], ◌∷◌, ◌++◌, take, Result, Ok, Err, OnErr, append-nil, append_assoc, sym, ap, ◌∙◌, arith}
+use Rattle.std.proofs.Common.{◌≡◌, ◌+◌, [], ◌∷◌, ◌++◌, take, Result, Ok, Err, OnErr, append-nil, append_assoc, sym, ap}
+use Rattle.std.proofs.Common.{◌∙◌, arith}
 use Rattle.std.proofs.lemmas.List.{take_more}
 use Rattle.mx_blocks.specs.Block.{block_rows, packed_rows}
 use Rattle.mx_blocks.proofs.ThreadLemmas.{packed_rows-append}

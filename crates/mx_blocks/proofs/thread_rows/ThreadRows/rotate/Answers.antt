@@ -1,4 +1,5 @@
-use Rattle.std.proofs.Common.{◌≡◌, ◌≤◌, nat_le, true, [], ◌∷◌, ◌++◌, length, take, drop, count_by, length-drop, length-take, sym, ap, ◌∙◌, arith}
+use Rattle.std.proofs.Common.{◌≡◌, ◌≤◌, nat_le, true, [], ◌∷◌, ◌++◌, length, take, drop, count_by, length-drop}
+use Rattle.std.proofs.Common.{length-take, sym, ap, ◌∙◌, arith}
 use Rattle.std.proofs.lemmas.Bool.{cond-false, cond-true, le-leb, lt-leb}
 use Rattle.std.proofs.lemmas.List.{take-append-drop}
 use Rattle.std.proofs.lemmas.List.Sums.{count_by-le-length, length-filter}
@@ -20,21 +21,24 @@ counted last n rows hot is same =
 
 pub returns-then-rows_upto-lt-BLOCK_ROWS-clause-answer : goal.returns-then-rows_upto-lt-BLOCK_ROWS-clause-answer
 returns-then-rows_upto-lt-BLOCK_ROWS-clause-answer c =
-    let n = counted c.args.last c.rows_upto.result _ c.args.self.now.hot.items c.rows_upto.ensures c.deref.ensures.value in
+    let n =
+    counted c.args.last c.rows_upto.result _ c.args.self.now.hot.items c.rows_upto.ensures c.deref.ensures.value in
     let few = c.if-rows_upto-lt-BLOCK_ROWS.true in
     sym (cond-false (nat_le 256 (length (upto c.args.last c.args.self.now.hot.items))) 256 0
     (lt-leb _ _ (omega (arith, n.0))))
 
 pub returns-clause-answer : goal.returns-clause-answer
 returns-clause-answer c =
-    let n = counted c.args.last c.rows_upto.result _ c.args.self.now.hot.items c.rows_upto.ensures c.deref.ensures.value in
+    let n =
+    counted c.args.last c.rows_upto.result _ c.args.self.now.hot.items c.rows_upto.ensures c.deref.ensures.value in
     let many = c.if-rows_upto-lt-BLOCK_ROWS.false in
     sym (cond-true (nat_le 256 (length (upto c.args.last c.args.self.now.hot.items))) 256 0
     (le-leb _ _ (omega (arith, n.0))))
 
 pub pack-requires-clause-count : goal.pack-requires-clause-count
 pack-requires-clause-count c =
-    let n = counted c.args.last c.rows_upto.result _ c.args.self.now.hot.items c.rows_upto.ensures c.deref.ensures.value in
+    let n =
+    counted c.args.last c.rows_upto.result _ c.args.self.now.hot.items c.rows_upto.ensures c.deref.ensures.value in
     let many = c.if-rows_upto-lt-BLOCK_ROWS.false in
     let first = c.first_rows.ensures ∙ ap (take 256) c.deref-2.ensures.value in
     let long : length c.first_rows.result.now ≡ 256
@@ -72,7 +76,15 @@ invariant_of-self-2 c =
       counted = old.counted ∙ ap counts_in (sym same);
       fits = old.fits;
       capacity = λ reserved. let spare = old.capacity reserved in
-          omega (arith, c.drop-drain.new.self.0.ok.0, old.hot.ok.0, ap length rest, length-drop 256 hot, c.drain.ensures.capacity, c.drop-drain.ensures.capacity);
+          omega (
+            arith,
+            c.drop-drain.new.self.0.ok.0,
+            old.hot.ok.0,
+            ap length rest,
+            length-drop 256 hot,
+            c.drain.ensures.capacity,
+            c.drop-drain.ensures.capacity,
+          );
       countable = old.countable;
     }
 

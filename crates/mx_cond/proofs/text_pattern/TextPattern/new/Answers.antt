@@ -8,4 +8,5 @@ invariant_of-result-2 c =
     let text = c.args.text.now in
     let spells = Spells-folded text (c.is_itself.ensures c.if-not-is_itself.false) in
     let glob = folded_from_pattern text c.args.glob c.requires in
-    subst (λ spelled. Spells spelled c.args.glob) (sym (c.in_ok-read.ensures {u = tt})) (subst (Spells text) glob spells)
+    subst (λ spelled. Spells spelled c.args.glob) (sym (c.in_ok-read.ensures {u = tt}))
+    (subst (Spells text) glob spells)

@@ -1,7 +1,8 @@
 use Rattle.std.proofs.Common.{◌≡◌, ◌∙◌, ◌+◌, ap, subst, sym}
 use Rattle.mx_records.specs.History.{with_input}
 use Rattle.mx_records.specs.Snapshot.{snapshot_of}
-use Rattle.mx_engine.specs.Planning.{Fits, Planned, PlannedChange, Suits, adds, change_planned, edits, event_planned, read_planned, reads}
+use Rattle.mx_engine.specs.Planning.{Fits, Planned, PlannedChange, Suits, adds, change_planned, edits, event_planned}
+use Rattle.mx_engine.specs.Planning.{read_planned, reads}
 use Rattle.mx_engine.proofs.Shown.{inputs-shown, step-adds, step-edits, step-reads}
 use Rattle.mx_engine.proofs.engine.Engine.apply.Goals as goal
 

@@ -8,4 +8,5 @@ returns-in-Ok-payload_within-clause-exact g c h is =
 
 pub returns-in-Err-clause-exact : goal.returns-in-Err-clause-exact
 returns-in-Err-clause-exact g c h is =
-    too-long c.args.self.now.server h c.args.input.now c.in-Err.error (c.in-Ok.ensures.exact h is) c.in-Err.ensures.exact
+    too-long c.args.self.now.server h c.args.input.now c.in-Err.error
+    (c.in-Ok.ensures.exact h is) c.in-Err.ensures.exact

@@ -1,5 +1,6 @@
 use Rattle.std.proofs.Common.{Some, IsSome, refl, sym, subst}
-use Rattle.mx_engine.proofs.UnreadLemmas.{IsAbsent, IsWritten, capacity-same, lists-cut, lists-cut-absent, unread_rows-absent, unread_rows-written}
+use Rattle.mx_engine.proofs.UnreadLemmas.{IsAbsent, IsWritten, capacity-same, lists-cut, lists-cut-absent}
+use Rattle.mx_engine.proofs.UnreadLemmas.{unread_rows-absent, unread_rows-written}
 use Rattle.mx_engine.proofs.kept_rows.UnreadRows.cut.Given.{Over}
 use Rattle.mx_engine.proofs.kept_rows.UnreadRows.cut.Goals as goal
 

@@ -1,5 +1,6 @@
 use Rattle.std.proofs.Common.{Some, IsSome, refl, sym, subst}
-use Rattle.mx_engine.proofs.UnreadLemmas.{IsAbsent, IsWritten, capacity-same, lists-cut_room, lists-cut_room-absent, unread_rows-absent, unread_rows-written}
+use Rattle.mx_engine.proofs.UnreadLemmas.{IsAbsent, IsWritten, capacity-same, lists-cut_room, lists-cut_room-absent}
+use Rattle.mx_engine.proofs.UnreadLemmas.{unread_rows-absent, unread_rows-written}
 use Rattle.mx_engine.proofs.kept_rows.UnreadRows.cut_room.Given.{Over}
 use Rattle.mx_engine.proofs.kept_rows.UnreadRows.cut_room.Goals as goal
 

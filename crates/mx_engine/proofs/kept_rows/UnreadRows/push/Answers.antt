@@ -3,7 +3,8 @@ use Rattle.std.proofs.lemmas.Bool.{false≢true}
 use Rattle.mx_room.specs.Texts.{Texts}
 use Rattle.mx_engine.specs.KeptRows.{ThreadSet, has_capacity_in, list_in}
 use Rattle.mx_records.specs.Snapshot.{RoomRows}
-use Rattle.mx_engine.proofs.UnreadLemmas.{IsWritten, capacity-used, capacity_in-empty, lists-pushed, ready-found, rooms-found, unread_rows-written}
+use Rattle.mx_engine.proofs.UnreadLemmas.{IsWritten, capacity-used, capacity_in-empty, lists-pushed, ready-found}
+use Rattle.mx_engine.proofs.UnreadLemmas.{rooms-found, unread_rows-written}
 use Rattle.mx_engine.proofs.kept_rows.UnreadRows.push.Given.{Over}
 use Rattle.mx_engine.proofs.kept_rows.UnreadRows.push.Goals as goal
 

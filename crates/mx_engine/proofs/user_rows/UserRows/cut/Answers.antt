@@ -1,5 +1,6 @@
 use Rattle.std.proofs.Common.{IsSome, refl, sym, subst}
-use Rattle.mx_engine.proofs.UserRowsLemmas.{IsAbsent, IsWritten, MeetsLaws, are_user_rows, capacity-same, lists-cut, lists-cut-absent, rooms-cut, user_rows-absent}
+use Rattle.mx_engine.proofs.UserRowsLemmas.{IsAbsent, IsWritten, MeetsLaws, are_user_rows, capacity-same, lists-cut}
+use Rattle.mx_engine.proofs.UserRowsLemmas.{lists-cut-absent, rooms-cut, user_rows-absent}
 use Rattle.mx_engine.proofs.user_rows.UserRows.cut.Given.{Over}
 use Rattle.mx_engine.proofs.user_rows.UserRows.cut.Goals as goal
 

@@ -1,5 +1,6 @@
 use Rattle.std.proofs.Common.{IsSome, refl, sym, subst}
-use Rattle.mx_engine.proofs.UserRowsLemmas.{IsAbsent, IsWritten, MeetsLaws, are_user_rows, capacity-same, lists-cut_all, lists-cut_all-absent, rooms-cut_all, user_rows-absent}
+use Rattle.mx_engine.proofs.UserRowsLemmas.{IsAbsent, IsWritten, MeetsLaws, are_user_rows, capacity-same, lists-cut_all}
+use Rattle.mx_engine.proofs.UserRowsLemmas.{lists-cut_all-absent, rooms-cut_all, user_rows-absent}
 use Rattle.mx_engine.proofs.user_rows.UserRows.cut_room.Given.{Over}
 use Rattle.mx_engine.proofs.user_rows.UserRows.cut_room.Goals as goal
 

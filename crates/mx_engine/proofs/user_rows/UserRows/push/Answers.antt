@@ -1,7 +1,8 @@
 use Rattle.std.proofs.Common.{◌<◌, All, IsSome, None, Some, refl, sym, subst, ◌∙◌}
 use Rattle.std.proofs.lemmas.Bool.{false≢true}
 use Rattle.mx_rows.specs.declared.row.Row.{Row}
-use Rattle.mx_engine.proofs.UserRowsLemmas.{IsWritten, MeetsLaws, are_user_rows, capacity-used, capacity_in-found, list_in-found, lists-pushed, rooms-pushed}
+use Rattle.mx_engine.proofs.UserRowsLemmas.{IsWritten, MeetsLaws, are_user_rows, capacity-used, capacity_in-found}
+use Rattle.mx_engine.proofs.UserRowsLemmas.{list_in-found, lists-pushed, rooms-pushed}
 use Rattle.mx_engine.proofs.user_rows.UserRows.push.Given.{Over}
 use Rattle.mx_engine.proofs.user_rows.UserRows.push.Goals as goal
 

@@ -3,7 +3,8 @@ use Rattle.std.specs.Map.{lookup}
 use Rattle.std.specs.Option.{option_map_or}
 use Rattle.std.specs.Str.{bytes_eq}
 use Rattle.mx_engine.specs.KeptRows.{is_thread}
-use Rattle.mx_engine.proofs.UserRowsLemmas.{IsEntered, IsWritten, MeetsLaws, are_user_rows, capacity-entered, capacity-made, rooms-entered, rooms-same, seen-entered, seen-same}
+use Rattle.mx_engine.proofs.UserRowsLemmas.{IsEntered, IsWritten, MeetsLaws, are_user_rows, capacity-entered}
+use Rattle.mx_engine.proofs.UserRowsLemmas.{capacity-made, rooms-entered, rooms-same, seen-entered, seen-same}
 use Rattle.mx_engine.proofs.user_rows.UserRows.reserve.Given.{Over}
 use Rattle.mx_engine.proofs.user_rows.UserRows.reserve.Goals as goal
 

@@ -9,6 +9,8 @@ returns-then-self-clause-matches c =
     let value = c.args.value.now in
     let family : List ℕ → Type 0 = λ p. Matches p value in
     let literal = c.self.invariant.1 c.if-self.true in (
-      λ yes. subst family c.self.view_is (subst (Matches pattern) (sym (c.equals.ensures.equal.0 yes)) (matches_itself pattern literal)),
-      λ matched. c.equals.ensures.equal.1 (literal_matches pattern value literal (subst family (sym c.self.view_is) matched)),
+      λ yes. subst family c.self.view_is
+          (subst (Matches pattern) (sym (c.equals.ensures.equal.0 yes)) (matches_itself pattern literal)),
+      λ matched.
+          c.equals.ensures.equal.1 (literal_matches pattern value literal (subst family (sym c.self.view_is) matched)),
     )

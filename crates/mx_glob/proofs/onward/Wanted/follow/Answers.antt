@@ -8,6 +8,7 @@ returns-in-None-clause-followed c =
     let now = c.loop-now.now in
     let reached = c.loop-now.invariant.reached in (
       omega (arith, reached.low),
-      IsEdged-from_served c.args.value.now wanted.segment.now wanted.begins wanted.ends c.args.from now.place now.size now.before _ reached (c.in-Some.ensures {u = tt}).character c.in-None.ensures.served,
+      IsEdged-from_served c.args.value.now wanted.segment.now wanted.begins wanted.ends c.args.from now.place now.size
+          now.before _ reached (c.in-Some.ensures {u = tt}).character c.in-None.ensures.served,
       λ j low high. reached.none j low (omega (arith, reached.low)),
     )

@@ -18,9 +18,11 @@ returns-then-not-nests_within-clause-read c =
 pub returns-clause-read : goal.returns-clause-read
 returns-clause-read c =
     let within = sym c.if-not-nests_within.ensures in
-    rw (read_json-within c.args.bytes.now c.args.deepest (view c.in_ok-value.value) c.in_ok-value.ensures within) c.whole_json.ensures
+    rw (read_json-within c.args.bytes.now c.args.deepest (view c.in_ok-value.value) c.in_ok-value.ensures within)
+    c.whole_json.ensures
 
 pub returns-clause-valid : goal.returns-clause-valid
 returns-clause-valid c =
     let within = sym c.if-not-nests_within.ensures in
-    is_valid-answer c.args.bytes.now c.args.deepest (view c.in_ok-value.value) c.whole_json.result c.in_ok-value.ensures (has_utf8-read c.in_ok-value.value) within c.requires c.whole_json.ensures
+    is_valid-answer c.args.bytes.now c.args.deepest (view c.in_ok-value.value) c.whole_json.result c.in_ok-value.ensures
+    (has_utf8-read c.in_ok-value.value) within c.requires c.whole_json.ensures

@@ -10,9 +10,11 @@ use Rattle.mx_records.specs.Snapshot.{snapshot_of}
 use Rattle.mx_rows.specs.declared.counts.Counts.{Counts}
 use Rattle.mx_lines.specs.Replies.{by_root}
 use Rattle.mx_lines.specs.Roots.{MayStand}
-use Rattle.mx_lines.proofs.RootsLemmas.{entries-none, may_stand-none, next-main, next-root, past-none, stand-insert, threads_le}
+use Rattle.mx_lines.proofs.RootsLemmas.{entries-none, may_stand-none, next-main, next-root, past-none, stand-insert}
+use Rattle.mx_lines.proofs.RootsLemmas.{threads_le}
 use Rattle.mx_lines.proofs.reply.counts.by_root.Goals as goal
-use Rattle.mx_lines.proofs.reply.counts.by_root.Goals.{else-loop-k-test, then-loop-k-test+in_default, in-Root+in_ok-insert, in_default-thread}
+use Rattle.mx_lines.proofs.reply.counts.by_root.Goals.{else-loop-k-test, then-loop-k-test+in_default}
+use Rattle.mx_lines.proofs.reply.counts.by_root.Goals.{in-Root+in_ok-insert, in_default-thread}
 
 pub loop-k-init : goal.loop-k-init
 loop-k-init g c =

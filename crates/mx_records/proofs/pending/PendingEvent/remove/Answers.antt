@@ -10,7 +10,8 @@ invariant_of-self c =
 
 pub returns : goal.returns
 returns c =
-    let users = ap users_in c.take_out.ensures ∙ users_in-without c.args.user.now c.self.inside.users.items c.self.invariant in
+    let users =
+    ap users_in c.take_out.ensures ∙ users_in-without c.args.user.now c.self.inside.users.items c.self.invariant in
     (λ i. record {
       event = c.self.inside.event;
       position = c.self.inside.position;

@@ -1,4 +1,5 @@
-use Rattle.std.proofs.Common.{◌≡◌, ◌∙◌, ◌↔◌, ℕ, nat_lt, Bool, true, false, List, length, Option, IsSomeAnd, IsTrue, Ok, Err, ap, if◌then◌else◌, subst, sym}
+use Rattle.std.proofs.Common.{◌≡◌, ◌∙◌, ◌↔◌, ℕ, nat_lt, Bool, true, false, List, length, Option, IsSomeAnd, IsTrue, Ok}
+use Rattle.std.proofs.Common.{Err, ap, if◌then◌else◌, subst, sym}
 use Rattle.std.proofs.lemmas.Result.{IfOk-weaker}
 use Rattle.mx_json.specs.Folded.{folded}
 use Rattle.mx_glob.specs.FoldedPattern.{folded_pattern}

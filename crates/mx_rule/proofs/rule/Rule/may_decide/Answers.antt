@@ -3,7 +3,8 @@ use Rattle.mx_cond.specs.Facts.{told_by}
 use Rattle.mx_rule.specs.Rule.{PushRule, is_passed_over, MayDecide}
 use Rattle.mx_rule.proofs.RuleLemmas.{MayDecide-exact, MayDecide-met, MayDecide-never}
 use Rattle.mx_rule.proofs.rule.Rule.may_decide.Goals as goal
-use Rattle.mx_rule.proofs.rule.Rule.may_decide.Goals.{then-not-self-via-then-not-self, then-not-self-via-else-not-self+then-is_passed_over}
+use Rattle.mx_rule.proofs.rule.Rule.may_decide.Goals.{then-not-self-via-then-not-self}
+use Rattle.mx_rule.proofs.rule.Rule.may_decide.Goals.{then-not-self-via-else-not-self+then-is_passed_over}
 
 pub returns-then-not-self-clause-exact : goal.returns-then-not-self-clause-exact
 returns-then-not-self-clause-exact c =
@@ -41,7 +42,9 @@ returns-clause-meaning c =
     let P : PushRule → Type 0 = λ rule. IfOk c.is_met.result (λ may. IsTrue may ↔ MayDecide rule facts) in
     let enabled : fields.enabled ≡ true = search rules in
     let tried : is_passed_over fields.id facts.event ≡ false = search rules in
-    subst P c.self.view_is (MayDecide-met rule facts c.is_met.result enabled tried (rw c.as_str.ensures at c.is_met.ensures))
+    subst P c.self.view_is
+    (MayDecide-met rule facts c.is_met.result enabled tried (rw c.as_str.ensures at c.is_met.ensures))
 
 pub returns-clause-exact : goal.returns-clause-exact
-returns-clause-exact c = MayDecide-exact c.args.self.now (told_by c.args.facts.now) c.is_met.result (returns-clause-meaning c)
+returns-clause-exact c =
+    MayDecide-exact c.args.self.now (told_by c.args.facts.now) c.is_met.result (returns-clause-meaning c)

@@ -10,10 +10,12 @@ unfolding flat
 returns-in-Some c =
     let rules_of : Kind → List Placed = λ kind. by_importance kind (placed kind c.args.self.now) in
     let found = rw c.in-Some.is at c.in_ok-place.ensures in
-    c.loop-kind.invariant _ (IsFirstOf-found (told_by c.args.facts.now) rules_of kinds c.loop-kind.kind-index _ (omega arith) c.in-Some.place found)
+    c.loop-kind.invariant _ (IsFirstOf-found (told_by c.args.facts.now) rules_of kinds c.loop-kind.kind-index _
+    (omega arith) c.in-Some.place found)
 
 pub loop-kind-preserved : goal.loop-kind-preserved
 loop-kind-preserved c = λ found later.
     let rules_of : Kind → List Placed = λ kind. by_importance kind (placed kind c.args.self.now) in
     let none = rw c.in_default.is at c.in_ok-place.ensures in
-    c.loop-kind.invariant found (IsFirstOf-passed (told_by c.args.facts.now) rules_of kinds c.loop-kind.kind-index _ (omega arith) none found later)
+    c.loop-kind.invariant found
+    (IsFirstOf-passed (told_by c.args.facts.now) rules_of kinds c.loop-kind.kind-index _ (omega arith) none found later)

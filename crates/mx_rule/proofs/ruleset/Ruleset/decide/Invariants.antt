@@ -7,5 +7,6 @@ use Rattle.mx_rule.proofs.ruleset.Ruleset.decide.Given as goal
 
 abbrev pub invariant-loop-kind : goal.invariant-loop-kind
 invariant-loop-kind l =
-    (found : Option RulePlace) → IsFirstOf (told_by l.facts) (λ kind. by_importance kind (placed kind l.self)) kinds l.kind-index found
+    (found : Option RulePlace)
+    → IsFirstOf (told_by l.facts) (λ kind. by_importance kind (placed kind l.self)) kinds l.kind-index found
     → IsFirstOf (told_by l.facts) (λ kind. by_importance kind (placed kind l.self)) kinds 0 found

@@ -6,4 +6,5 @@ use Rattle.mx_rule.proofs.ruleset.Ruleset.first_of_kind.Given as goal
 
 abbrev pub invariant-loop-index : goal.invariant-loop-index
 invariant-loop-index l =
-    (found : Option RulePlace) → IsFirstFrom (told_by l.facts) l.kind l.rule-items l.index found → IsFirstFrom (told_by l.facts) l.kind l.rule-items 0 found
+    (found : Option RulePlace) → IsFirstFrom (told_by l.facts) l.kind l.rule-items l.index found
+    → IsFirstFrom (told_by l.facts) l.kind l.rule-items 0 found

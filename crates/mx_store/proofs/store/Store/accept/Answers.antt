@@ -40,7 +40,8 @@ commit-requires-clause-staged g c =
 pub invariant_of-self-in-Ok-commit : goal.invariant_of-self-in-Ok-commit
 invariant_of-self-in-Ok-commit g c =
     let k = c.self.invariant in
-    let stands = c.prepare.ensures.meaning ∙ k.1.is ∙ ap (λ (s : List ℕ). snapshot_of s k.0) (sym c.prepare.ensures.server) in (
+    let stands =
+    c.prepare.ensures.meaning ∙ k.1.is ∙ ap (λ (s : List ℕ). snapshot_of s k.0) (sym c.prepare.ensures.server) in (
       with_input k.0 c.args.input.now,
       knows_more c.apply.new.self.server c.self.inside.engine.server c.apply.new.self.shown c.self.inside.engine.shown
           k.0 c.args.input.now (c.apply.ensures.server ∙ c.prepare.ensures.server) k.1
@@ -51,7 +52,8 @@ invariant_of-self-in-Ok-commit g c =
 pub returns-in-Ok-commit-clause-shown : goal.returns-in-Ok-commit-clause-shown
 returns-in-Ok-commit-clause-shown g c = λ h knows.
     let k = subst (λ (s : Stored g.row.D.Denot). Knows s.server s.shown h) (sym c.self.view_is) knows in
-    let stands = c.prepare.ensures.meaning ∙ k.is ∙ ap (λ (s : List ℕ). snapshot_of s h) (sym c.prepare.ensures.server) in
+    let stands =
+    c.prepare.ensures.meaning ∙ k.is ∙ ap (λ (s : List ℕ). snapshot_of s h) (sym c.prepare.ensures.server) in
     knows_more c.apply.new.self.server c.self.inside.engine.server c.apply.new.self.shown c.self.inside.engine.shown
     h c.args.input.now (c.apply.ensures.server ∙ c.prepare.ensures.server) k (c.in-Ok.ensures.exact h k.is)
     (c.apply.ensures.step h c.args.input.now stands c.in-Ok.ensures.suits)
@@ -61,7 +63,8 @@ returns-in-Ok-commit-clause-accepted g c = λ h keeps.
     let inside = subst (λ (s : Stored g.row.D.Denot). Keeps g.D.Disk.seen g.D.Disk.may_leave s h) (sym c.self.view_is)
     keeps in
     let k = inside.knows in
-    let stands = c.prepare.ensures.meaning ∙ k.is ∙ ap (λ (s : List ℕ). snapshot_of s h) (sym c.prepare.ensures.server) in
+    let stands =
+    c.prepare.ensures.meaning ∙ k.is ∙ ap (λ (s : List ℕ). snapshot_of s h) (sym c.prepare.ensures.server) in
     let rests = subst (λ (j : Opened g.row.D.Denot). Rests g.D.Disk.seen g.D.Disk.may_leave j (payloads_of h))
     (sym c.in-Ok-stage.ensures.staged) inside.rests in
     let staged = ap (λ (j : Opened g.row.D.Denot). j.staged) c.in-Ok-stage.ensures.staged ∙ c.payload.ensures
