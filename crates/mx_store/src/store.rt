@@ -1,4 +1,5 @@
-ghost use Rattle.std.specs.Prelude.{◌≡◌, ◌≢◌, ◌<◌, ◌≤◌, ◌⊎◌, ℕ, List, length, Some, Err, IfErr, IfOk, IfSome, MatchResult, OnOk, OnErr};
+ghost use Rattle.std.specs.Prelude.{◌≡◌, ◌≢◌, ◌<◌, ◌≤◌, ◌⊎◌, ℕ, List, length, Some, Err, IfErr};
+ghost use Rattle.std.specs.Prelude.{IfOk, IfSome, MatchResult, OnOk, OnErr};
 ghost use Rattle.mx_outside.specs.Told.{Rose};
 ghost use Rattle.mx_outside.specs.Disk.{Only, LeavesOnly};
 ghost use Rattle.mx_journal.specs.Calls.{OnlyReads};
@@ -67,9 +68,9 @@ impl<D: Disk, R: Rows> Model for Store<D, R> {
 }
 
 impl<D: Disk, R: Rows> Store<D, R> {
-    /// Opens the journal of a homeserver on a disk and accepts its entries, one after another. A disk
-    /// of at most 17 bytes that isn't the empty journal is written anew, and a longer one isn't
-    /// written.
+    /// Opens the journal of a homeserver on a disk and accepts its entries, one after another. A
+    /// disk of at most 17 bytes that isn't the empty journal is written anew, and a longer one
+    /// isn't written.
     ///
     /// # Errors
     ///
@@ -229,14 +230,22 @@ impl<D: Disk, R: Rows> Store<D, R> {
         &self.engine
     }
 
-    /// Accepts an input: prepares it, commits its entry to the disk, and then applies it. Answers its
-    /// position (from 1). Until the entry is on the disk the engine stands for what it stood for.
+    /// Gives the disk back.
+    pub fn into_disk(self) -> D
+        ensures { result ≡ self.journal.disk }
+    {
+        self.journal.into_disk()
+    }
+
+    /// Accepts an input: prepares it, commits its entry to the disk, and then applies it. Answers
+    /// its position (from 1). Until the entry is on the disk the engine stands for what it stood
+    /// for.
     ///
     /// # Errors
     ///
-    /// `Refused` with the first refusal that applies, exactly where one does, and `OutOfMemory` where
-    /// the allocator has none; either leaves all as it was. `DiskFault` where the disk failed: then
-    /// the disk has the entry or not, and the store is to be opened again.
+    /// `Refused` with the first refusal that applies, exactly where one does, and `OutOfMemory`
+    /// where the allocator has none; either leaves all as it was. `DiskFault` where the disk
+    /// failed: then the disk has the entry or not, and the store is to be opened again.
     pub fn accept(&mut self, alloc: Global, input: &Input) -> Result<u64, AcceptError>
         requires normal { IsNormal input.now }
         requires built { IsBuilt input.now }

@@ -1,5 +1,8 @@
 pub mod AdmissionLemmas
 pub mod CommandLineLemmas
+pub mod CrashLemmas
+pub mod JournalLineLemmas
+pub mod KeepingLemmas
 pub mod ServeLemmas
 pub mod SessionLemmas
 pub mod StepLemmas

@@ -1,5 +1,8 @@
 -- The words of the command line: ours.
-use Rattle.std.specs.Prelude.{◌≡◌, ℕ, ◌≤◌, Bool, false, not, ◌||◌, ◌&&◌, ◌==◌, ◌⊎◌, nat_le, IsTrue, All, List, [], ◌∷◌, ◌++◌, length, codes}
+use Rattle.std.specs.Prelude.{◌≡◌, ℕ, ◌≤◌, Bool, false, not, ◌||◌, ◌&&◌, ◌==◌, ◌⊎◌, nat_le, IsTrue, All, List, [], ◌∷◌}
+use Rattle.std.specs.Prelude.{◌++◌, length, codes}
+use Rattle.push_server.specs.declared.command_line.Subcommand.{Subcommand}
+use Rattle.push_server.specs.declared.command_line.Subcommand.TheVariants.{Run, Check}
 
 -- ---- options in general
 
@@ -17,6 +20,14 @@ BeginWith option value rest words =
 abbrev pub AreEnded : List (List ℕ) → Type 0
 AreEnded words = (words ≡ []) ⊎ (words ≡ codes "--" ∷ [])
 
+-- The words are two options in this order, each once and with its value, and nothing after them.
+pub record AreInTurn (first one second two : List ℕ) (words : List (List ℕ)) : Type 0 where
+  pub rest : List (List ℕ)
+  pub later : List (List ℕ)
+  pub begins : BeginWith first one rest words
+  pub goes_on : BeginWith second two later rest
+  pub ended : AreEnded later
+
 -- ---- a server's name
 
 -- the byte is from the first of these to the last
@@ -26,7 +37,8 @@ is_between first last b = nat_le first b && nat_le b last
 -- the byte is one of `a-z A-Z 0-9 . - : [ ]`
 abbrev pub is_name_byte : ℕ → Bool
 is_name_byte b =
-    is_between 97 122 b || is_between 65 90 b || is_between 48 57 b || b == 46 || b == 45 || b == 58 || b == 91 || b == 93
+    is_between 97 122 b || is_between 65 90 b || is_between 48 57 b || b == 46 || b == 45 || b == 58 || b
+    == 91 || b == 93
 
 -- a server's name is a value of 1 to 200 such bytes
 pub record IsServerName (name : List ℕ) : Type 0 where
@@ -34,13 +46,23 @@ pub record IsServerName (name : List ℕ) : Type 0 where
   pub limit : length name ≤ 200
   pub bytes : All (λ b. IsTrue (is_name_byte b)) name
 
--- ---- the words of a run
+-- ---- the words of a subcommand
 
--- The words are `run`, and the option `--server` with this server's name, once.
-pub record AreRunWords (words : List (List ℕ)) (server : List ℕ) : Type 0 where
+-- the word that names a subcommand
+abbrev pub word_of : Subcommand → List ℕ
+word_of Run = codes "run"
+word_of Check = codes "check"
+
+-- The words are the options `--server` and `--journal` with these values, in one of the two orders.
+abbrev pub AreOptions : List ℕ → List ℕ → List (List ℕ) → Type 0
+AreOptions server journal words =
+    AreInTurn (codes "--server") server (codes "--journal") journal words
+    ⊎ AreInTurn (codes "--journal") journal (codes "--server") server words
+
+-- The words are this subcommand, for the homeserver with this name and the journal at this path.
+pub record AreWordsOf (words : List (List ℕ)) (subcommand : Subcommand) (server journal : List ℕ) : Type 0 where
   pub options : List (List ℕ)
-  pub rest : List (List ℕ)
-  pub command : words ≡ codes "run" ∷ options
-  pub option : BeginWith (codes "--server") server rest options
-  pub ended : AreEnded rest
+  pub first : words ≡ word_of subcommand ∷ options
+  pub given : AreOptions server journal options
   pub name : IsServerName server
+  pub path : IsTrue (is_value journal)

@@ -1,5 +1,5 @@
+use crate::answer::AnswerError;
 use crate::status::Status;
-use mx_json::OutOfMemory;
 use mx_outside::Failed;
 
 /// Why the answering of lines ended.
@@ -7,6 +7,8 @@ use mx_outside::Failed;
 pub enum Halt {
     /// There was no memory.
     OutOfMemory,
+    /// The disk failed.
+    DiskFault,
     /// The sink failed.
     WriteFault,
 }
@@ -21,19 +23,23 @@ impl Halt {
     {
         match self {
             Halt::OutOfMemory => Status::OutOfMemory,
+            Halt::DiskFault => Status::DiskFault,
             Halt::WriteFault => Status::WriteFault,
         }
     }
 }
 
-impl From<OutOfMemory> for Halt {
+impl From<AnswerError> for Halt {
     ghost use Rattle.std.specs.Prelude.{◌≡◌};
-    ghost use Rattle.push_server.specs.declared.halt.Halt.TheVariants as halt;
+    ghost use Rattle.push_server.specs.Answered.{halt_of};
 
-    ghost from_gives = { λ _ h. h ≡ halt.OutOfMemory };
+    ghost from_gives = { λ error halt. halt ≡ halt_of error };
 
-    fn from(_error: OutOfMemory) -> Halt {
-        Halt::OutOfMemory
+    fn from(error: AnswerError) -> Halt {
+        match error {
+            AnswerError::DiskFault => Halt::DiskFault,
+            AnswerError::OutOfMemory => Halt::OutOfMemory,
+        }
     }
 }
 

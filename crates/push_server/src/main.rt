@@ -1,12 +1,15 @@
 //! Decides who is notified of the events of a Matrix homeserver.
 //!
-//! `push_server run --server NAME` reads lines from standard input and answers each on standard output. `serve` is the
-//! program; this file gives it the real outside.
+//! `push_server run --server NAME --journal PATH` reads lines from standard input, answers each on
+//! standard output, and keeps what it accepts in the journal; `push_server check` counts what a
+//! journal has. `serve` is the program; this file gives it the real outside.
 #![tactic(auto)]
 
 mod answer;
 mod command_line;
+mod file_disk;
 mod halt;
+mod journal_lines;
 mod pieces;
 mod serve;
 mod session;
@@ -17,13 +20,13 @@ mod status;
 mod tests;
 mod writing;
 
+use command_line::{Subcommand, read_words};
+use file_disk::FileDisk;
 use serve::serve;
 use standard_input::StandardInput;
 use standard_output::StandardOutput;
 use status::Status;
-use std::alloc::Global;
 use std::process::ExitCode;
-use std::rt::Env;
 use std::{env, io};
 
 fn main(rt: HostRuntime) -> ExitCode {
@@ -34,8 +37,9 @@ fn main(rt: HostRuntime) -> ExitCode {
     ExitCode::from(status.code())
 }
 
-/// Serves the real outside with the words of the command line. Words that aren't text are no words of ours.
-fn run<R: Input + Print + Env + AllocGlobal>(rt: &R) -> Status {
+/// Serves the real outside with the words of the command line.
+/// Words that aren't text are no words of ours.
+fn run(rt: &HostRuntime) -> Status {
     let mut words = Vec::new(rt.alloc());
     match env::args(rt) {
         Ok(args) => {
@@ -48,7 +52,14 @@ fn run<R: Input + Print + Env + AllocGlobal>(rt: &R) -> Status {
         Err(error) if error.kind() == io::ErrorKind::OutOfMemory => return Status::OutOfMemory,
         Err(_) => return Status::Usage,
     }
+    let Some(said) = read_words(&words) else {
+        return Status::Usage;
+    };
+    let mut disk = match said.subcommand {
+        Subcommand::Run => FileDisk::open(rt, said.journal),
+        Subcommand::Check => FileDisk::open_to_read(rt, said.journal),
+    };
     let mut source = StandardInput::new(rt.reader());
     let mut sink = StandardOutput::new(io::writer(rt));
-    serve(rt.alloc(), &words, &mut source, &mut sink)
+    serve(rt.alloc(), &words, &mut source, &mut sink, &mut disk)
 }

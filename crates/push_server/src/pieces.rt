@@ -18,7 +18,8 @@ pub fn piece_buffer(alloc: Global) -> Result<Vec<u8>, OutOfMemory>
     Ok(Vec::from_elem(alloc, 0, PIECE)?)
 }
 
-/// Reads the next piece of the input: at most as many bytes as are left of the limit, and at most 65,536.
+/// Reads the next piece of the input:
+/// at most as many bytes as are left of the limit, and at most 65,536.
 pub fn read_piece<S: Source>(source: &mut S, buffer: &mut [u8], left_of_limit: u64) -> Got
     requires some { 0 < length buffer.old }
     requires small { length buffer.old ≤ largest_piece }
@@ -26,7 +27,8 @@ pub fn read_piece<S: Source>(source: &mut S, buffer: &mut [u8], left_of_limit: u
     ensures given { IsGiven result (length buffer.new) }
     ensures within { IsPieceWithin result left_of_limit }
     ensures small { IsPieceWithin result largest_piece }
-    ensures bytes { WhereTold (S.left source.old) (S.left source.new) (GivesBytes result buffer.new) }
+    ensures bytes { WhereTold (S.left source.old) (S.left source.new)
+        (GivesBytes result buffer.new) }
     ensures count { S.faults source.old ≤ S.faults source.new }
     ensures fault { result ≡ Got.Failed → Rose (S.faults source.old) (S.faults source.new) }
     ensures steady { result ≢ Got.Failed → S.faults source.new ≡ S.faults source.old }

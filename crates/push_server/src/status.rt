@@ -12,6 +12,11 @@ pub enum Status {
     ReadFault,
     /// The sink failed, in the reply to a line.
     WriteFault,
+    /// The disk failed. The line that was answered last is kept;
+    /// the one after it may be kept or not.
+    DiskFault,
+    /// The disk's content is no journal of this homeserver. Where its first fault is was written.
+    NotAJournal,
     /// There was no memory. No reply is cut short.
     OutOfMemory,
     /// The input has as many bytes as are taken. Each line that ends in them has its reply.
@@ -30,6 +35,8 @@ impl Status {
             Status::Usage => 2,
             Status::ReadFault => 3,
             Status::WriteFault => 4,
+            Status::DiskFault => 5,
+            Status::NotAJournal => 6,
             Status::OutOfMemory => 7,
             Status::InputLimit => 8,
         }
@@ -44,6 +51,8 @@ impl Status {
             Status::Usage => Some("push_server: usage"),
             Status::ReadFault => Some("push_server: read fault"),
             Status::WriteFault => Some("push_server: write fault"),
+            Status::DiskFault => Some("push_server: disk fault"),
+            Status::NotAJournal => Some("push_server: not a journal"),
             Status::OutOfMemory => Some("push_server: out of memory"),
             Status::InputLimit => Some("push_server: input limit"),
         }

@@ -1,5 +1,5 @@
-//! Edits that are refused, edits at each bound, and how events are judged by edited rules: each told through `serve`;
-//! the user is `@b:example.org`.
+//! Edits that are refused, edits at each bound, and how events are judged by edited rules: each
+//! told through `serve`; the user is `@b:example.org`.
 
 use super::edits::{edit_line, say_accepted, say_edit, say_rules};
 use super::fixtures::{Script, is_served};
@@ -56,17 +56,24 @@ static BAD_RULES: [Refused; 16] = [
     (r#"put","actions":["dance"],"kind":"room","rule_id":"r:example.org""#, r#""BadRule","part":"rule_id""#),
     (r#"put","actions":["dance"],"kind":"sender","rule_id":"!r:example.org""#, r#""BadRule","part":"rule_id""#),
     (r#"put","actions":["dance"],"kind":"content","rule_id":"c""#, r#""BadRule","part":"pattern""#),
-    (r#"put","actions":["dance"],"conditions":[7],"kind":"override","pattern":"cake","rule_id":"o""#, r#""BadRule","part":"conditions""#),
-    (r#"put","actions":["dance"],"conditions":[{"kind":"event_match","key":"type"}],"kind":"underride","rule_id":"o""#, r#""BadRule","part":"conditions""#),
-    (r#"put","actions":[],"conditions":[{"kind":"contains_display_name"},{"kind":"event_match","key":"type","pattern":7},{"kind":"unheard_of"}],"kind":"override","rule_id":"o""#, r#""BadRule","part":"conditions""#),
-    (r#"put","actions":["dance"],"conditions":[{"kind":"unheard_of"}],"kind":"override","rule_id":"o""#, r#""BadRule","part":"actions""#),
-    (r#"put","actions":["dance"],"conditions":[7],"kind":"content","pattern":"cake","rule_id":"c""#, r#""BadRule","part":"actions""#),
+    (r#"put","actions":["dance"],"conditions":[7],"kind":"override","pattern":"cake","rule_id":"o""#,
+        r#""BadRule","part":"conditions""#),
+    (r#"put","actions":["dance"],"conditions":[{"kind":"event_match","key":"type"}],"kind":"underride","rule_id":"o""#,
+        r#""BadRule","part":"conditions""#),
+    (r#"put","actions":[],"conditions":[{"kind":"contains_display_name"},{"kind":"event_match","key":"type","pattern":7},{"kind":"unheard_of"}],"kind":"override","rule_id":"o""#,
+        r#""BadRule","part":"conditions""#),
+    (r#"put","actions":["dance"],"conditions":[{"kind":"unheard_of"}],"kind":"override","rule_id":"o""#,
+        r#""BadRule","part":"actions""#),
+    (r#"put","actions":["dance"],"conditions":[7],"kind":"content","pattern":"cake","rule_id":"c""#,
+        r#""BadRule","part":"actions""#),
     (r#"put","actions":["notify","dance"],"kind":"room","rule_id":"!r:example.org""#, r#""BadRule","part":"actions""#),
     (r#"put","actions":["notify",{"value":1}],"kind":"override","rule_id":"o""#, r#""BadRule","part":"actions""#),
     (r#"put","actions":[{"set_tweak":7}],"kind":"override","rule_id":"o""#, r#""BadRule","part":"actions""#),
     (r#"put","actions":["coalesce",null],"kind":"override","rule_id":"o""#, r#""BadRule","part":"actions""#),
-    (r#"actions","actions":["dont_notify",["notify"]],"kind":"override","rule_id":".m.rule.master""#, r#""BadRule","part":"actions""#),
-    (r#"put","actions":[],"conditions":{},"kind":"content","pattern":"cake","rule_id":"c""#, r#""BadField","field":"conditions""#),
+    (r#"actions","actions":["dont_notify",["notify"]],"kind":"override","rule_id":".m.rule.master""#,
+        r#""BadRule","part":"actions""#),
+    (r#"put","actions":[],"conditions":{},"kind":"content","pattern":"cake","rule_id":"c""#,
+        r#""BadField","field":"conditions""#),
     (r#"put","actions":[],"kind":"room","pattern":7,"rule_id":"!r:example.org""#, r#""BadField","field":"pattern""#),
     (r#"put","actions":[],"kind":"global","rule_id":"x""#, r#""BadField","field":"kind""#),
 ];
@@ -191,8 +198,8 @@ static FULL: [Refused; 7] = [
 
 // ---- how events are judged
 
-/// What is said after two users joined a room, all of it accepted, and the counts of `@b` then: an edit, or a message
-/// of `@a` after `say `.
+/// What is said after two users joined a room, all of it accepted, and the counts of `@b` then: an
+/// edit, or a message of `@a` after `say `.
 struct Judged {
     name: &'static str,
     said: &'static [&'static str],
@@ -271,11 +278,19 @@ const MASTER: &str = r#"enable","enabled":true,"kind":"override","rule_id":".m.r
 
 #[rattlefmt::skip]
 static JUDGED: [Judged; 7] = [
-    Judged { name: "a content rule for cake", said: &[CAKE, "say cheesecake", "say CAKE!", "say a_cake", "say écake"], notify: 4, highlight: 2 },
-    Judged { name: "a room rule disabled when the event came", said: &[QUIET_ROOM, "say hi", NO_QUIET_ROOM, "say hi", r#"enable","enabled":true,"kind":"room","rule_id":"!r:example.org""#], notify: 1, highlight: 0 },
+    Judged { name: "a content rule for cake", said: &[CAKE, "say cheesecake", "say CAKE!", "say a_cake", "say écake"],
+        notify: 4, highlight: 2 },
+    Judged { name: "a room rule disabled when the event came", said: &[QUIET_ROOM, "say hi", NO_QUIET_ROOM, "say hi",
+        r#"enable","enabled":true,"kind":"room","rule_id":"!r:example.org""#], notify: 1, highlight: 0 },
     Judged { name: "a rule that comes after the event", said: &["say cake", CAKE], notify: 1, highlight: 0 },
-    Judged { name: "a rule that was deleted", said: &[CAKE, "say cake", r#"delete","kind":"content","rule_id":"c""#, "say cake"], notify: 2, highlight: 1 },
+    Judged { name: "a rule that was deleted",
+        said: &[CAKE, "say cake", r#"delete","kind":"content","rule_id":"c""#, "say cake"], notify: 2, highlight: 1 },
     Judged { name: "the master", said: &["say hi", MASTER, "say hi"], notify: 1, highlight: 0 },
-    Judged { name: "the master with actions of its own", said: &[MASTER, r#"actions","actions":["notify",{"set_tweak":"highlight"}],"kind":"override","rule_id":".m.rule.master""#, "say hi"], notify: 1, highlight: 1 },
-    Judged { name: "a rule before others by its place", said: &[r#"put","actions":["notify",{"set_tweak":"highlight"}],"kind":"sender","rule_id":"@a:example.org""#, "say hi", r#"put","actions":[],"kind":"override","rule_id":"o""#, "say hi", QUIET_ROOM, "say hi"], notify: 1, highlight: 1 },
+    Judged { name: "the master with actions of its own", said: &[MASTER,
+        r#"actions","actions":["notify",{"set_tweak":"highlight"}],"kind":"override","rule_id":".m.rule.master""#,
+        "say hi"], notify: 1, highlight: 1 },
+    Judged { name: "a rule before others by its place",
+        said: &[r#"put","actions":["notify",{"set_tweak":"highlight"}],"kind":"sender","rule_id":"@a:example.org""#,
+        "say hi", r#"put","actions":[],"kind":"override","rule_id":"o""#, "say hi", QUIET_ROOM, "say hi"], notify: 1,
+        highlight: 1 },
 ];

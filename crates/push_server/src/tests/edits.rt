@@ -1,18 +1,18 @@
-//! Edits of push rules: what they are refused for, what they make of the rules, and by which rules an event is
-//! judged. Tables of rows, each told through `serve`; the user is `@b:example.org`.
+//! Edits of push rules: what they are refused for, what they make of the rules, and by which rules
+//! an event is judged. Tables of rows, each told through `serve`; the user is `@b:example.org`.
 
 use super::fixtures::{Script, is_served};
 use mx_vectors::printed_predefined_rules;
 use std::alloc::Global;
 use std::process::Abort;
 
-/// A line: what follows `{"cmd":"rule_` and stands before the user, and what is told after `"error":` where it is
-/// refused, else nothing.
+/// A line: what follows `{"cmd":"rule_` and stands before the user, and what is told after
+/// `"error":` where it is refused, else nothing.
 #[derive(Clone, Copy)]
 struct Edit(&'static str, &'static str);
 
-/// Edits, and the rules that the user made after them, kind by kind: override, content, room, sender, underride; with
-/// a blank between each two, and `-` before those that are disabled.
+/// Edits, and the rules that the user made after them, kind by kind: override, content, room,
+/// sender, underride; with a blank between each two, and `-` before those that are disabled.
 struct Row {
     name: &'static str,
     edits: &'static [Edit],
@@ -152,7 +152,8 @@ impl Asks {
     }
 }
 
-/// Prints a list: of a kind's own rules, of the lines of the rules before them, and of those after them.
+/// Prints a list: of a kind's own rules, of the lines of the rules before them,
+/// and of those after them.
 fn print_list(rt: &impl Abort, out: &mut String, own: &str, before: &str, after: &str, asks: Asks) {
     print_text(rt, out, "[");
     let mut printed = print_lines(rt, out, before, 0);
@@ -217,31 +218,67 @@ const Y: Edit = Edit(r#"put","actions":[],"kind":"override","rule_id":"y""#, "")
 #[rattlefmt::skip]
 static PLACES: [Row; 7] = [
     Row { name: "a new rule is the first of the user's", edits: &[X, Y], own: ["y x", "", "", "", ""] },
-    Row { name: "rule order and anchors", edits: &[X, Y, Edit(r#"put","actions":[],"before":"x","kind":"override","rule_id":"z""#, "")], own: ["y z x", "", "", "", ""] },
-    Row { name: "after an anchor", edits: &[X, Y, Edit(r#"put","actions":[],"after":"x","kind":"override","rule_id":"z""#, "")], own: ["y x z", "", "", "", ""] },
-    Row { name: "before decides over after", edits: &[X, Y, Edit(r#"put","actions":[],"after":"x","before":"y","kind":"override","rule_id":"z""#, "")], own: ["z y x", "", "", "", ""] },
-    Row { name: "put again with other conditions, it keeps its place and its flag", edits: &[Edit(r#"put","actions":["notify"],"conditions":[{"kind":"contains_display_name"}],"kind":"override","rule_id":"x""#, ""), Y, Edit(r#"enable","enabled":false,"kind":"override","rule_id":"x""#, ""), X], own: ["y -x", "", "", "", ""] },
-    Row { name: "put again after an anchor, it moves", edits: &[X, Y, Edit(r#"put","actions":[],"after":"x","kind":"override","rule_id":"y""#, "")], own: ["x y", "", "", "", ""] },
-    Row { name: "deleted and put again, it is new", edits: &[X, Y, Edit(r#"delete","kind":"override","rule_id":"x""#, ""), X], own: ["x y", "", "", "", ""] },
+    Row { name: "rule order and anchors",
+        edits: &[X, Y, Edit(r#"put","actions":[],"before":"x","kind":"override","rule_id":"z""#, "")],
+        own: ["y z x", "", "", "", ""] },
+    Row { name: "after an anchor",
+        edits: &[X, Y, Edit(r#"put","actions":[],"after":"x","kind":"override","rule_id":"z""#, "")],
+        own: ["y x z", "", "", "", ""] },
+    Row { name: "before decides over after",
+        edits: &[X, Y, Edit(r#"put","actions":[],"after":"x","before":"y","kind":"override","rule_id":"z""#, "")],
+        own: ["z y x", "", "", "", ""] },
+    Row { name: "put again with other conditions, it keeps its place and its flag",
+        edits: &[Edit(r#"put","actions":["notify"],"conditions":[{"kind":"contains_display_name"}],"kind":"override","rule_id":"x""#,
+            ""), Y, Edit(r#"enable","enabled":false,"kind":"override","rule_id":"x""#, ""), X],
+        own: ["y -x", "", "", "", ""] },
+    Row { name: "put again after an anchor, it moves",
+        edits: &[X, Y, Edit(r#"put","actions":[],"after":"x","kind":"override","rule_id":"y""#, "")],
+        own: ["x y", "", "", "", ""] },
+    Row { name: "deleted and put again, it is new",
+        edits: &[X, Y, Edit(r#"delete","kind":"override","rule_id":"x""#, ""), X],
+        own: ["x y", "", "", "", ""] },
 ];
 
 #[rattlefmt::skip]
 static KINDS: [Row; 6] = [
     Row { name: "no edit", edits: &[], own: ["", "", "", "", ""] },
-    Row { name: "a content rule, whose conditions are ignored", edits: &[Edit(r#"put","actions":[],"conditions":[7],"kind":"content","pattern":"cake","rule_id":"c""#, "")], own: ["", "c", "", "", ""] },
-    Row { name: "a room rule, whose pattern is ignored", edits: &[Edit(r#"put","actions":[],"kind":"room","pattern":"*","rule_id":"!r:example.org""#, "")], own: ["", "", "!r:example.org", "", ""] },
-    Row { name: "a sender rule", edits: &[Edit(r#"put","actions":[],"kind":"sender","rule_id":"@a:example.org""#, ""), Edit(r#"enable","enabled":false,"kind":"sender","rule_id":"@a:example.org""#, "")], own: ["", "", "", "-@a:example.org", ""] },
-    Row { name: "one id in two kinds", edits: &[X, Edit(r#"put","actions":[],"kind":"underride","rule_id":"x""#, ""), Edit(r#"enable","enabled":false,"kind":"underride","rule_id":"x""#, "")], own: ["x", "", "", "", "-x"] },
-    Row { name: "a deleted rule of another kind stays", edits: &[X, Edit(r#"put","actions":[],"kind":"underride","rule_id":"x""#, ""), Edit(r#"delete","kind":"override","rule_id":"x""#, "")], own: ["", "", "", "", "x"] },
+    Row { name: "a content rule, whose conditions are ignored",
+        edits: &[Edit(r#"put","actions":[],"conditions":[7],"kind":"content","pattern":"cake","rule_id":"c""#, "")],
+        own: ["", "c", "", "", ""] },
+    Row { name: "a room rule, whose pattern is ignored",
+        edits: &[Edit(r#"put","actions":[],"kind":"room","pattern":"*","rule_id":"!r:example.org""#, "")],
+        own: ["", "", "!r:example.org", "", ""] },
+    Row { name: "a sender rule", edits: &[Edit(r#"put","actions":[],"kind":"sender","rule_id":"@a:example.org""#, ""),
+        Edit(r#"enable","enabled":false,"kind":"sender","rule_id":"@a:example.org""#, "")],
+        own: ["", "", "", "-@a:example.org", ""] },
+    Row { name: "one id in two kinds", edits: &[X, Edit(r#"put","actions":[],"kind":"underride","rule_id":"x""#, ""),
+        Edit(r#"enable","enabled":false,"kind":"underride","rule_id":"x""#, "")], own: ["x", "", "", "", "-x"] },
+    Row { name: "a deleted rule of another kind stays",
+        edits: &[X, Edit(r#"put","actions":[],"kind":"underride","rule_id":"x""#, ""),
+        Edit(r#"delete","kind":"override","rule_id":"x""#, "")], own: ["", "", "", "", "x"] },
 ];
 
 #[rattlefmt::skip]
 static ANCHORS: [Row; 7] = [
-    Row { name: "before a predefined rule", edits: &[Edit(r#"put","actions":[],"before":".m.rule.master","kind":"override","rule_id":"w""#, r#""AnchorUnknown""#)], own: ["", "", "", "", ""] },
-    Row { name: "before itself", edits: &[X, Edit(r#"put","actions":[],"before":"x","kind":"override","rule_id":"x""#, r#""AnchorUnknown""#)], own: ["x", "", "", "", ""] },
-    Row { name: "after itself", edits: &[X, Edit(r#"put","actions":["notify"],"after":"x","kind":"override","rule_id":"x""#, r#""AnchorUnknown""#)], own: ["x", "", "", "", ""] },
-    Row { name: "before a rule of another kind", edits: &[X, Edit(r#"put","actions":[],"before":"x","kind":"underride","rule_id":"y""#, r#""AnchorUnknown""#)], own: ["x", "", "", "", ""] },
-    Row { name: "before an unknown rule, after a known one", edits: &[X, Edit(r#"put","actions":[],"after":"x","before":"q","kind":"override","rule_id":"y""#, r#""AnchorUnknown""#)], own: ["x", "", "", "", ""] },
-    Row { name: "after an unknown rule", edits: &[Edit(r#"put","actions":[],"after":"q","kind":"override","rule_id":"y""#, r#""AnchorUnknown""#)], own: ["", "", "", "", ""] },
-    Row { name: "before a rule, after an unknown one", edits: &[X, Edit(r#"put","actions":[],"after":"q","before":"x","kind":"override","rule_id":"y""#, "")], own: ["y x", "", "", "", ""] },
+    Row { name: "before a predefined rule",
+        edits: &[Edit(r#"put","actions":[],"before":".m.rule.master","kind":"override","rule_id":"w""#,
+        r#""AnchorUnknown""#)], own: ["", "", "", "", ""] },
+    Row { name: "before itself",
+        edits: &[X, Edit(r#"put","actions":[],"before":"x","kind":"override","rule_id":"x""#, r#""AnchorUnknown""#)],
+        own: ["x", "", "", "", ""] },
+    Row { name: "after itself", edits: &[X,
+        Edit(r#"put","actions":["notify"],"after":"x","kind":"override","rule_id":"x""#, r#""AnchorUnknown""#)],
+        own: ["x", "", "", "", ""] },
+    Row { name: "before a rule of another kind",
+        edits: &[X, Edit(r#"put","actions":[],"before":"x","kind":"underride","rule_id":"y""#, r#""AnchorUnknown""#)],
+        own: ["x", "", "", "", ""] },
+    Row { name: "before an unknown rule, after a known one", edits: &[X,
+        Edit(r#"put","actions":[],"after":"x","before":"q","kind":"override","rule_id":"y""#, r#""AnchorUnknown""#)],
+        own: ["x", "", "", "", ""] },
+    Row { name: "after an unknown rule",
+        edits: &[Edit(r#"put","actions":[],"after":"q","kind":"override","rule_id":"y""#, r#""AnchorUnknown""#)],
+        own: ["", "", "", "", ""] },
+    Row { name: "before a rule, after an unknown one",
+        edits: &[X, Edit(r#"put","actions":[],"after":"q","before":"x","kind":"override","rule_id":"y""#, "")],
+        own: ["y x", "", "", "", ""] },
 ];

@@ -2,7 +2,7 @@
 
 use crate::serve::serve;
 use crate::status::Status;
-use mx_outside::{BytesSource, Sink, Source, VecSink};
+use mx_outside::{BytesSource, Disk, MemoryDisk, Sink, Source, VecSink};
 use std::alloc::Global;
 use std::process::Abort;
 
@@ -22,10 +22,11 @@ pub(super) fn words(rt: &impl Abort, alloc: Global, line: &str) -> Vec<String> {
 
 /// The words that the server is run with.
 pub(super) fn run_words(rt: &impl Abort, alloc: Global) -> Vec<String> {
-    words(rt, alloc, "run --server example.org")
+    words(rt, alloc, "run --server example.org --journal journal")
 }
 
-/// The lines of a run, the replies that they must have, and how many bytes both have after each line.
+/// The lines of a run, the replies that they must have,
+/// and how many bytes both have after each line.
 #[derive(Drop)]
 pub(super) struct Script {
     pub(super) input: Vec<u8>,
@@ -129,15 +130,32 @@ pub(super) fn front_of(taken: &[u8], said: &[u8]) -> Option<usize> {
     }
 }
 
-/// Serves with the words that the server is run with.
+/// A disk with this content, which takes memory for each call that changes it.
+pub(super) fn memory(rt: &impl Abort, alloc: Global, content: &[u8]) -> MemoryDisk {
+    MemoryDisk::new(alloc, content, 0, 0).expect(rt, "a disk")
+}
+
+/// Serves with the words that the server is run with, over an empty disk.
 pub(super) fn serve_words<S: Source, K: Sink>(
     rt: &impl Abort,
     alloc: Global,
     source: &mut S,
     sink: &mut K,
 ) -> Status {
+    let mut disk = memory(rt, alloc, b"");
+    serve_disk(rt, alloc, source, sink, &mut disk)
+}
+
+/// Serves with the words that the server is run with.
+pub(super) fn serve_disk<S: Source, K: Sink, D: Disk>(
+    rt: &impl Abort,
+    alloc: Global,
+    source: &mut S,
+    sink: &mut K,
+    disk: &mut D,
+) -> Status {
     let words = run_words(rt, alloc);
-    serve(alloc, &words, source, sink)
+    serve(alloc, &words, source, sink, disk)
 }
 
 /// How serving ends, and how many bytes it writes, where they are a front of those that were said.

@@ -1,5 +1,5 @@
-//! What is unread, thread by thread: receipts, threads, changes of membership. Tables of rows, each told through
-//! `serve`; an event has its position behind `$` as its id.
+//! What is unread, thread by thread: receipts, threads, changes of membership. Tables of rows, each
+//! told through `serve`; an event has its position behind `$` as its id.
 
 use super::fixtures::{Script, is_served};
 use super::rooms::{Told, message_line, say_accepted, state_line};
@@ -239,7 +239,8 @@ const NOT_IN: &str = "NotInThread";
 
 #[rattlefmt::skip]
 static THREADS: [Row; 1] = [
-    Row { name: "threads, reactions and threaded receipts", steps: &[A_JOINS, B_JOINS, HI, IN_3, TO_4, TO_ZZ, Step::Counts(OF_B, ONE_AND_ONE),
+    Row { name: "threads, reactions and threaded receipts",
+        steps: &[A_JOINS, B_JOINS, HI, IN_3, TO_4, TO_ZZ, Step::Counts(OF_B, ONE_AND_ONE),
         Step::Read(r#""event_id":"$6","room_id":"!r:example.org","thread_id":"$3","type":"m.read","user":"@b:example.org""#, NOT_IN),
         Step::Read(r#""event_id":"$5","room_id":"!r:example.org","thread_id":"$3","type":"m.read","user":"@b:example.org""#, ""), Step::Counts(OF_B, ONE),
         Step::Read(r#""event_id":"$3","room_id":"!r:example.org","thread_id":"$3","type":"m.read","user":"@b:example.org""#, ""), Step::Counts(OF_B, ONE),
@@ -248,41 +249,78 @@ static THREADS: [Row; 1] = [
 
 #[rattlefmt::skip]
 static MUTED: [Row; 3] = [
-    Row { name: "by the master rule", steps: &[A_JOINS, B_JOINS, HI, IN_3, B_IS_MUTED, B_TO_4, IN_3, HI, Step::Counts(OF_A, NONE), Step::Counts(OF_B, ONE_AND_ONE),
+    Row { name: "by the master rule", steps: &[A_JOINS, B_JOINS, HI, IN_3, B_IS_MUTED, B_TO_4, IN_3, HI,
+        Step::Counts(OF_A, NONE), Step::Counts(OF_B, ONE_AND_ONE),
         Step::Read(r#""event_id":"$6","room_id":"!r:example.org","thread_id":"main","type":"m.read","user":"@b:example.org""#, NOT_IN),
         Step::Read(r#""event_id":"$6","room_id":"!r:example.org","thread_id":"$3","type":"m.read","user":"@b:example.org""#, ""), Step::Counts(OF_B, ONE)] },
-    Row { name: "by a rule of the room", steps: &[A_JOINS, B_JOINS, HI, IN_3, B_MUTES_R, B_TO_4, IN_3, HI, Step::Counts(OF_A, NONE), Step::Counts(OF_B, ONE_AND_ONE),
+    Row { name: "by a rule of the room", steps: &[A_JOINS, B_JOINS, HI, IN_3, B_MUTES_R, B_TO_4, IN_3, HI,
+        Step::Counts(OF_A, NONE), Step::Counts(OF_B, ONE_AND_ONE),
         Step::Read(r#""event_id":"$6","room_id":"!r:example.org","type":"m.read","user":"@b:example.org""#, ""), Step::Counts(OF_B, NONE)] },
-    Row { name: "and notifies who wants reactions", steps: &[A_JOINS, B_JOINS, HI, IN_3, B_WANTS_REACTIONS, A_IS_MUTED, TO_4, Step::Counts(OF_B, ONE_AND_TWO)] },
+    Row { name: "and notifies who wants reactions",
+        steps: &[A_JOINS, B_JOINS, HI, IN_3, B_WANTS_REACTIONS, A_IS_MUTED, TO_4, Step::Counts(OF_B, ONE_AND_TWO)] },
 ];
 
 #[rattlefmt::skip]
 static RECEIPTS: [Row; 7] = [
-    Row { name: "a receipt of the room reads its threads", steps: &[A_JOINS, B_JOINS, HI, IN_3, Step::Counts(OF_B_IN_SUM, TWO_IN_SUM), Step::Read(r#""event_id":"$4","room_id":"!r:example.org","type":"m.read","user":"@b:example.org""#, ""), Step::Counts(OF_B, NONE)] },
-    Row { name: "a receipt of the main thread", steps: &[A_JOINS, B_JOINS, HI, IN_3, Step::Read(r#""event_id":"$3","room_id":"!r:example.org","thread_id":"main","type":"m.read.private","user":"@b:example.org""#, ""), Step::Counts(OF_B, NONE_AND_ONE)] },
-    Row { name: "a receipt of a thread after a later one of the room", steps: &[A_JOINS, B_JOINS, HI, IN_3, HI, Step::Read(r#""event_id":"$5","room_id":"!r:example.org","type":"m.read","user":"@b:example.org""#, ""), Step::Read(r#""event_id":"$4","room_id":"!r:example.org","thread_id":"$3","type":"m.read","user":"@b:example.org""#, ""), Step::Counts(OF_B, NONE)] },
-    Row { name: "a receipt of the room after a later one of a thread", steps: &[A_JOINS, B_JOINS, HI, IN_3, IN_3, HI, Step::Read(r#""event_id":"$5","room_id":"!r:example.org","thread_id":"$3","type":"m.read","user":"@b:example.org""#, ""), Step::Counts(OF_B, TWO), Step::Read(r#""event_id":"$3","room_id":"!r:example.org","type":"m.read","user":"@b:example.org""#, ""), Step::Counts(OF_B, ONE)] },
-    Row { name: "a receipt before any unread event", steps: &[A_JOINS, B_JOINS, HI, HI, Step::Read(r#""event_id":"$2","room_id":"!r:example.org","type":"m.read","user":"@b:example.org""#, ""), Step::Counts(OF_B, TWO)] },
-    Row { name: "a later receipt of an earlier event", steps: &[A_JOINS, B_JOINS, HI, HI, HI, Step::Read(r#""event_id":"$4","room_id":"!r:example.org","type":"m.read","user":"@b:example.org""#, ""), Step::Read(r#""event_id":"$3","room_id":"!r:example.org","type":"m.read","user":"@b:example.org""#, ""), Step::Counts(OF_B, ONE)] },
-    Row { name: "a receipt of another user", steps: &[A_JOINS, B_JOINS, HI, Step::Read(r#""event_id":"$3","room_id":"!r:example.org","type":"m.read","user":"@a:example.org""#, ""), Step::Counts(OF_B, ONE)] },
+    Row { name: "a receipt of the room reads its threads",
+        steps: &[A_JOINS, B_JOINS, HI, IN_3, Step::Counts(OF_B_IN_SUM, TWO_IN_SUM),
+        Step::Read(r#""event_id":"$4","room_id":"!r:example.org","type":"m.read","user":"@b:example.org""#, ""),
+        Step::Counts(OF_B, NONE)] },
+    Row { name: "a receipt of the main thread", steps: &[A_JOINS, B_JOINS, HI, IN_3,
+        Step::Read(r#""event_id":"$3","room_id":"!r:example.org","thread_id":"main","type":"m.read.private","user":"@b:example.org""#,
+        ""), Step::Counts(OF_B, NONE_AND_ONE)] },
+    Row { name: "a receipt of a thread after a later one of the room", steps: &[A_JOINS, B_JOINS, HI, IN_3, HI,
+        Step::Read(r#""event_id":"$5","room_id":"!r:example.org","type":"m.read","user":"@b:example.org""#, ""),
+        Step::Read(r#""event_id":"$4","room_id":"!r:example.org","thread_id":"$3","type":"m.read","user":"@b:example.org""#,
+        ""), Step::Counts(OF_B, NONE)] },
+    Row { name: "a receipt of the room after a later one of a thread", steps: &[A_JOINS, B_JOINS, HI, IN_3, IN_3, HI,
+        Step::Read(r#""event_id":"$5","room_id":"!r:example.org","thread_id":"$3","type":"m.read","user":"@b:example.org""#,
+        ""), Step::Counts(OF_B, TWO),
+        Step::Read(r#""event_id":"$3","room_id":"!r:example.org","type":"m.read","user":"@b:example.org""#, ""),
+        Step::Counts(OF_B, ONE)] },
+    Row { name: "a receipt before any unread event", steps: &[A_JOINS, B_JOINS, HI, HI,
+        Step::Read(r#""event_id":"$2","room_id":"!r:example.org","type":"m.read","user":"@b:example.org""#, ""),
+        Step::Counts(OF_B, TWO)] },
+    Row { name: "a later receipt of an earlier event", steps: &[A_JOINS, B_JOINS, HI, HI, HI,
+        Step::Read(r#""event_id":"$4","room_id":"!r:example.org","type":"m.read","user":"@b:example.org""#, ""),
+        Step::Read(r#""event_id":"$3","room_id":"!r:example.org","type":"m.read","user":"@b:example.org""#, ""),
+        Step::Counts(OF_B, ONE)] },
+    Row { name: "a receipt of another user", steps: &[A_JOINS, B_JOINS, HI,
+        Step::Read(r#""event_id":"$3","room_id":"!r:example.org","type":"m.read","user":"@a:example.org""#, ""),
+        Step::Counts(OF_B, ONE)] },
 ];
 
 #[rattlefmt::skip]
 static REFUSED: [Row; 5] = [
-    Row { name: "an event of another room", steps: &[A_JOINS, B_JOINS, Step::Event(Told(S, A, MESSAGE, None, "{}")), HI, Step::Read(r#""event_id":"$3","room_id":"!r:example.org","type":"m.read","user":"@b:example.org""#, UNKNOWN), Step::Counts(OF_B, ONE)] },
-    Row { name: "a remote user, before an unknown event", steps: &[A_JOINS, Step::Read(r#""event_id":"$zz","room_id":"!r:example.org","type":"m.read","user":"@z:other.org""#, "NotLocal")] },
-    Row { name: "a user who isn't in the room", steps: &[A_JOINS, HI, Step::Read(r#""event_id":"$2","room_id":"!r:example.org","type":"m.read","user":"@b:example.org""#, ""), Step::Counts(OF_B, NONE)] },
-    Row { name: "an event of a thread as one of the main thread", steps: &[A_JOINS, B_JOINS, HI, IN_3, Step::Read(r#""event_id":"$4","room_id":"!r:example.org","thread_id":"main","type":"m.read","user":"@b:example.org""#, NOT_IN), Step::Counts(OF_B, ONE_AND_ONE)] },
-    Row { name: "a thread that nobody began", steps: &[A_JOINS, B_JOINS, HI, Step::Read(r#""event_id":"$3","room_id":"!r:example.org","thread_id":"$zz","type":"m.read","user":"@b:example.org""#, NOT_IN), Step::Counts(OF_B, ONE)] },
+    Row { name: "an event of another room", steps: &[A_JOINS, B_JOINS, Step::Event(Told(S, A, MESSAGE, None, "{}")), HI,
+        Step::Read(r#""event_id":"$3","room_id":"!r:example.org","type":"m.read","user":"@b:example.org""#, UNKNOWN),
+        Step::Counts(OF_B, ONE)] },
+    Row { name: "a remote user, before an unknown event", steps: &[A_JOINS,
+        Step::Read(r#""event_id":"$zz","room_id":"!r:example.org","type":"m.read","user":"@z:other.org""#,
+        "NotLocal")] },
+    Row { name: "a user who isn't in the room", steps: &[A_JOINS, HI,
+        Step::Read(r#""event_id":"$2","room_id":"!r:example.org","type":"m.read","user":"@b:example.org""#, ""),
+        Step::Counts(OF_B, NONE)] },
+    Row { name: "an event of a thread as one of the main thread", steps: &[A_JOINS, B_JOINS, HI, IN_3,
+        Step::Read(r#""event_id":"$4","room_id":"!r:example.org","thread_id":"main","type":"m.read","user":"@b:example.org""#,
+        NOT_IN), Step::Counts(OF_B, ONE_AND_ONE)] },
+    Row { name: "a thread that nobody began", steps: &[A_JOINS, B_JOINS, HI,
+        Step::Read(r#""event_id":"$3","room_id":"!r:example.org","thread_id":"$zz","type":"m.read","user":"@b:example.org""#,
+        NOT_IN), Step::Counts(OF_B, ONE)] },
 ];
 
 #[rattlefmt::skip]
 static MEMBERSHIP: [Row; 5] = [
-    Row { name: "an invitation, a join, a leave, a join", steps: &[A_JOINS, A_INVITES_B, Step::Counts(OF_B, ONE), B_JOINS, Step::Counts(OF_B, NONE), B_LEAVES, HI, B_JOINS, Step::Counts(OF_B, NONE)] },
+    Row { name: "an invitation, a join, a leave, a join", steps: &[A_JOINS, A_INVITES_B, Step::Counts(OF_B, ONE),
+        B_JOINS, Step::Counts(OF_B, NONE), B_LEAVES, HI, B_JOINS, Step::Counts(OF_B, NONE)] },
     Row { name: "an invitation that is declined", steps: &[A_JOINS, A_INVITES_B, B_LEAVES, Step::Counts(OF_B, NONE)] },
-    Row { name: "a name that changes", steps: &[A_JOINS, B_JOINS, HI, Step::Event(Told(R, B, MEMBER, Some(B), r#"{"displayname":"Bob","membership":"join"}"#)), Step::Counts(OF_B, ONE)] },
-    Row { name: "a kick, and a join", steps: &[A_JOINS, B_JOINS, HI, A_KICKS_B, Step::Counts(OF_B, NONE), HI, B_JOINS, HI, Step::Counts(OF_B, ONE)] },
-    Row { name: "a ban, its end, and a join", steps: &[A_JOINS, B_JOINS, HI, A_BANS_B, Step::Counts(OF_B, NONE), A_KICKS_B, HI, B_JOINS, HI, Step::Counts(OF_B, ONE)] },
+    Row { name: "a name that changes", steps: &[A_JOINS, B_JOINS, HI,
+        Step::Event(Told(R, B, MEMBER, Some(B), r#"{"displayname":"Bob","membership":"join"}"#)),
+        Step::Counts(OF_B, ONE)] },
+    Row { name: "a kick, and a join",
+        steps: &[A_JOINS, B_JOINS, HI, A_KICKS_B, Step::Counts(OF_B, NONE), HI, B_JOINS, HI, Step::Counts(OF_B, ONE)] },
+    Row { name: "a ban, its end, and a join", steps: &[A_JOINS, B_JOINS, HI, A_BANS_B, Step::Counts(OF_B, NONE),
+        A_KICKS_B, HI, B_JOINS, HI, Step::Counts(OF_B, ONE)] },
 ];
 
 // ---- a late receipt

@@ -1,4 +1,5 @@
-//! Lines that are refused, each beside the earlier refusals that could hide it, and lines at each bound.
+//! Lines that are refused, each beside the earlier refusals that could hide it,
+//! and lines at each bound.
 
 use super::fixtures::{Script, is_served};
 use std::alloc::Global;
@@ -38,7 +39,8 @@ static NO_COMMAND: [&str; 7] = [
     r#"{"cmd":"stat","cmd":1}"#,
 ];
 
-/// The first wrong field, where each later one is wrong too, and the event is known or the user isn't local.
+/// The first wrong field, where each later one is wrong too,
+/// and the event is known or the user isn't local.
 #[rattlefmt::skip]
 static WRONG_FIELDS: [(&str, &str); 13] = [
     (r#"{"cmd":"event"}"#, "event.event_id"),
@@ -47,8 +49,10 @@ static WRONG_FIELDS: [(&str, &str); 13] = [
     (r#"{"cmd":"event","event":{"event_id":"$known","room_id":"r","sender":"a","type":1,"content":1}}"#, "event.room_id"),
     (r#"{"cmd":"event","event":{"event_id":"$known","room_id":"!r","sender":"a","type":1,"content":1}}"#, "event.sender"),
     (r#"{"cmd":"event","event":{"event_id":"$known","room_id":"!r","sender":"@a:b","type":1,"content":1}}"#, "event.type"),
-    (r#"{"cmd":"event","event":{"event_id":"$known","room_id":"!r","sender":"@a:b","type":"t","content":[],"state_key":1}}"#, "event.content"),
-    (r#"{"cmd":"event","event":{"event_id":"$known","room_id":"!r","sender":"@a:b","type":"t","content":{},"state_key":null}}"#, "event.state_key"),
+    (r#"{"cmd":"event","event":{"event_id":"$known","room_id":"!r","sender":"@a:b","type":"t","content":[],"state_key":1}}"#,
+        "event.content"),
+    (r#"{"cmd":"event","event":{"event_id":"$known","room_id":"!r","sender":"@a:b","type":"t","content":{},"state_key":null}}"#,
+        "event.state_key"),
     (r#"{"cmd":"counts"}"#, "user"),
     (r#"{"cmd":"counts","room_id":"r","threads":1,"user":"z:other.org"}"#, "user"),
     (r#"{"cmd":"counts","room_id":"r","threads":1,"user":"@z:other.org"}"#, "room_id"),
@@ -206,19 +210,24 @@ fn long(rt: &impl Abort, alloc: Global, length: usize) -> String {
 static AT_BOUNDS: [(Line, &str); 15] = [
     (Line::Is(B_JOINS), r#"= {"ok":1}"#),
     (Line::Nested(97), r#"= {"ok":2}"#),
-    (Line::Is(r#"{"cmd":"event","event":{"content":{"n":9007199254740991},"event_id":"$n1","room_id":"!r:example.org","sender":"@a:example.org","type":"m.room.message"}}"#), r#"= {"ok":3}"#),
-    (Line::Is(r#"{"cmd":"event","event":{"content":{"n":-9007199254740991},"event_id":"$n2","room_id":"!r:example.org","sender":"@a:example.org","type":"m.room.message"}}"#), r#"= {"ok":4}"#),
+    (Line::Is(r#"{"cmd":"event","event":{"content":{"n":9007199254740991},"event_id":"$n1","room_id":"!r:example.org","sender":"@a:example.org","type":"m.room.message"}}"#),
+        r#"= {"ok":3}"#),
+    (Line::Is(r#"{"cmd":"event","event":{"content":{"n":-9007199254740991},"event_id":"$n2","room_id":"!r:example.org","sender":"@a:example.org","type":"m.room.message"}}"#),
+        r#"= {"ok":4}"#),
     (Line::Id(254), r#"= {"ok":5}"#),
     (Line::Kind(255), r#"= {"ok":6}"#),
     // As a server hands an event out.
-    (Line::Is(r#"{"cmd":"event","event":{"content":{"body":"hi","m.mentions":{},"msgtype":"m.text"},"event_id":"$143273582443PhrSn8Yp0wVcDkWuBtGXbA3mJqLzTHe","origin_server_ts":1432735824653,"room_id":"!r:example.org","sender":"@a:example.org","type":"m.room.message","unsigned":{"age":1234}}}"#), r#"= {"ok":7}"#),
+    (Line::Is(r#"{"cmd":"event","event":{"content":{"body":"hi","m.mentions":{},"msgtype":"m.text"},"event_id":"$143273582443PhrSn8Yp0wVcDkWuBtGXbA3mJqLzTHe","origin_server_ts":1432735824653,"room_id":"!r:example.org","sender":"@a:example.org","type":"m.room.message","unsigned":{"age":1234}}}"#),
+        r#"= {"ok":7}"#),
     // Two keys of one name: the last counts.
-    (Line::Is(r#"{"cmd":"event","event":{"content":{},"event_id":"$twice","event_id":"$last","room_id":"!r:example.org","sender":"@a:example.org","type":"m.room.message"}}"#), r#"= {"ok":8}"#),
+    (Line::Is(r#"{"cmd":"event","event":{"content":{},"event_id":"$twice","event_id":"$last","room_id":"!r:example.org","sender":"@a:example.org","type":"m.room.message"}}"#),
+        r#"= {"ok":8}"#),
     (Line::Nested(98), r#"= {"error":"BadLine"}"#),
     (Line::Id(255), r#"= {"error":"BadField","field":"event.event_id"}"#),
     (Line::Id(0), r#"= {"error":"BadField","field":"event.event_id"}"#),
     (Line::Kind(256), r#"= {"error":"BadField","field":"event.type"}"#),
-    (Line::Is(r#"{"cmd":"counts","room_id":"!r:example.org","user":"@b:example.org"}"#), r#"= {"highlight_count":0,"notification_count":6,"threads":{}}"#),
+    (Line::Is(r#"{"cmd":"counts","room_id":"!r:example.org","user":"@b:example.org"}"#),
+        r#"= {"highlight_count":0,"notification_count":6,"threads":{}}"#),
     (Line::Long(131_073), r#"= {"error":"LineTooLong"}"#),
     (Line::Long(131_072), r#"= {"ok":9}"#),
 ];

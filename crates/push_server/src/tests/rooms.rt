@@ -1,4 +1,5 @@
-//! Whom events notify, by the predefined rules and the rooms after them: tables of rows, each told through `serve`.
+//! Whom events notify, by the predefined rules and the rooms after them:
+//! tables of rows, each told through `serve`.
 
 use super::fixtures::{Script, is_served};
 use std::alloc::Global;
@@ -14,7 +15,8 @@ pub(super) struct Told(
     pub(super) &'static str,
 );
 
-/// Events, all of which are accepted, and what is replied to questions after them: the room, the user, the reply.
+/// Events, all of which are accepted, and what is replied to questions after them:
+/// the room, the user, the reply.
 struct Row {
     name: &'static str,
     events: &'static [Told],
@@ -183,47 +185,93 @@ const A_CALLS_ALL: Told = Told(R, A, MESSAGE, None, AT_ROOM);
 
 #[rattlefmt::skip]
 static JOINED: [Row; 6] = [
-    Row { name: "two join, one message", events: &[A_JOINS, B_JOINS, A_WRITES], replies: &[(R, B, ONE), (R, A, NOTHING)] },
-    Row { name: "a third joins", events: &[A_JOINS, B_JOINS, A_WRITES, C_JOINS, A_WRITES], replies: &[(R, B, TWO), (R, C, ONE), (R, A, NOTHING)] },
-    Row { name: "@room with power 50", events: &[A_JOINS, B_JOINS, Told(R, A, POWERS, Some(""), A_50), A_CALLS_ALL], replies: &[(R, B, ONE_HIGHLIGHTED)] },
-    Row { name: "@room with power 49", events: &[A_JOINS, B_JOINS, Told(R, A, POWERS, Some(""), r#"{"users":{"@a:example.org":49}}"#), A_CALLS_ALL], replies: &[(R, B, ONE)] },
-    Row { name: "@room beside m.mentions", events: &[A_JOINS, B_JOINS, Told(R, A, POWERS, Some(""), A_50), Told(R, A, MESSAGE, None, r#"{"body":"@room hi","m.mentions":{},"msgtype":"m.text"}"#)], replies: &[(R, B, ONE)] },
-    Row { name: "a power that the event itself gives", events: &[A_JOINS, B_JOINS, Told(R, A, POWERS, Some(""), r#"{"body":"@room","users":{"@a:example.org":50}}"#)], replies: &[(R, B, ONE_HIGHLIGHTED)] },
+    Row { name: "two join, one message",
+        events: &[A_JOINS, B_JOINS, A_WRITES],
+        replies: &[(R, B, ONE), (R, A, NOTHING)] },
+    Row { name: "a third joins",
+        events: &[A_JOINS, B_JOINS, A_WRITES, C_JOINS, A_WRITES],
+        replies: &[(R, B, TWO), (R, C, ONE), (R, A, NOTHING)] },
+    Row { name: "@room with power 50",
+        events: &[A_JOINS, B_JOINS, Told(R, A, POWERS, Some(""), A_50), A_CALLS_ALL],
+        replies: &[(R, B, ONE_HIGHLIGHTED)] },
+    Row { name: "@room with power 49",
+        events: &[A_JOINS, B_JOINS, Told(R, A, POWERS, Some(""), r#"{"users":{"@a:example.org":49}}"#), A_CALLS_ALL],
+        replies: &[(R, B, ONE)] },
+    Row { name: "@room beside m.mentions",
+        events: &[A_JOINS, B_JOINS, Told(R, A, POWERS, Some(""), A_50),
+            Told(R, A, MESSAGE, None, r#"{"body":"@room hi","m.mentions":{},"msgtype":"m.text"}"#)],
+        replies: &[(R, B, ONE)] },
+    Row { name: "a power that the event itself gives",
+        events: &[A_JOINS, B_JOINS, Told(R, A, POWERS, Some(""), r#"{"body":"@room","users":{"@a:example.org":50}}"#)],
+        replies: &[(R, B, ONE_HIGHLIGHTED)] },
 ];
 
 #[rattlefmt::skip]
 static NOT_JOINED: [Row; 5] = [
     Row { name: "who isn't in the room", events: &[A_JOINS, A_WRITES], replies: &[(R, B, NOTHING)] },
     Row { name: "who joins after the message", events: &[A_JOINS, A_WRITES, B_JOINS], replies: &[(R, B, NOTHING)] },
-    Row { name: "who was away", events: &[A_JOINS, B_JOINS, Told(R, B, MEMBER, Some(B), LEAVE), A_WRITES, B_JOINS], replies: &[(R, B, NOTHING)] },
-    Row { name: "a membership that is no text", events: &[A_JOINS, Told(R, B, MEMBER, Some(B), r#"{"membership":1}"#), A_WRITES], replies: &[(R, B, NOTHING)] },
-    Row { name: "a message by a remote user, and a remote user", events: &[A_JOINS, REMOTE_JOINS, A_WRITES, Told(R, REMOTE, MESSAGE, None, HI)], replies: &[(R, REMOTE, NOT_LOCAL), (R, A, ONE)] },
+    Row { name: "who was away",
+        events: &[A_JOINS, B_JOINS, Told(R, B, MEMBER, Some(B), LEAVE), A_WRITES, B_JOINS],
+        replies: &[(R, B, NOTHING)] },
+    Row { name: "a membership that is no text",
+        events: &[A_JOINS, Told(R, B, MEMBER, Some(B), r#"{"membership":1}"#), A_WRITES],
+        replies: &[(R, B, NOTHING)] },
+    Row { name: "a message by a remote user, and a remote user",
+        events: &[A_JOINS, REMOTE_JOINS, A_WRITES, Told(R, REMOTE, MESSAGE, None, HI)],
+        replies: &[(R, REMOTE, NOT_LOCAL), (R, A, ONE)] },
 ];
 
 #[rattlefmt::skip]
 static INVITED: [Row; 4] = [
-    Row { name: "an invitation", events: &[A_JOINS, Told(R, A, MEMBER, Some(B), INVITE)], replies: &[(R, B, ONE), (R, A, NOTHING)] },
-    Row { name: "a message to who is invited still", events: &[A_JOINS, Told(R, A, MEMBER, Some(B), INVITE), A_WRITES], replies: &[(R, B, ONE)] },
+    Row { name: "an invitation", events: &[A_JOINS, Told(R, A, MEMBER, Some(B), INVITE)],
+        replies: &[(R, B, ONE), (R, A, NOTHING)] },
+    Row { name: "a message to who is invited still", events: &[A_JOINS, Told(R, A, MEMBER, Some(B), INVITE), A_WRITES],
+        replies: &[(R, B, ONE)] },
     Row { name: "an invitation by a remote user", events: &[REMOTE_JOINS, REMOTE_INVITES_B], replies: &[(R, B, ONE)] },
-    Row { name: "a ban after an invitation", events: &[REMOTE_JOINS, REMOTE_INVITES_B, Told(R, REMOTE, MEMBER, Some(B), r#"{"membership":"ban"}"#), Told(R, REMOTE, MESSAGE, None, HI)], replies: &[(R, B, NOTHING)] },
+    Row { name: "a ban after an invitation", events: &[REMOTE_JOINS, REMOTE_INVITES_B,
+        Told(R, REMOTE, MEMBER, Some(B), r#"{"membership":"ban"}"#), Told(R, REMOTE, MESSAGE, None, HI)],
+        replies: &[(R, B, NOTHING)] },
 ];
 
 #[rattlefmt::skip]
 static SEVERAL_ROOMS: [Row; 5] = [
-    Row { name: "state events in another room", events: &[A_JOINS, B_JOINS, Told(S, B, MEMBER, Some(B), LEAVE), Told(S, A, POWERS, Some(""), A_50), A_CALLS_ALL], replies: &[(R, B, ONE), (S, B, NOTHING)] },
-    Row { name: "a member of another room", events: &[A_JOINS, Told(S, B, MEMBER, Some(B), JOIN), A_WRITES], replies: &[(R, B, NOTHING), (S, B, NOTHING)] },
-    Row { name: "a member of two rooms", events: &[A_JOINS, B_JOINS, Told(S, B, MEMBER, Some(B), JOIN), A_WRITES, Told(S, A, MESSAGE, None, HI), Told(S, A, MESSAGE, None, HI)], replies: &[(R, B, ONE), (S, B, TWO), (S, A, NOTHING)] },
-    Row { name: "a state event without local members", events: &[Told(R, REMOTE, "m.room.create", Some(""), "{}")], replies: &[(R, A, NOTHING), (R, B, NOTHING)] },
-    Row { name: "what such an event sets", events: &[Told(R, REMOTE, "m.room.create", Some(""), "{}"), B_JOINS, Told(R, REMOTE, MESSAGE, None, AT_ROOM)], replies: &[(R, B, ONE_HIGHLIGHTED)] },
+    Row { name: "state events in another room", events: &[A_JOINS, B_JOINS, Told(S, B, MEMBER, Some(B), LEAVE),
+        Told(S, A, POWERS, Some(""), A_50), A_CALLS_ALL], replies: &[(R, B, ONE), (S, B, NOTHING)] },
+    Row { name: "a member of another room", events: &[A_JOINS, Told(S, B, MEMBER, Some(B), JOIN), A_WRITES],
+        replies: &[(R, B, NOTHING), (S, B, NOTHING)] },
+    Row { name: "a member of two rooms", events: &[A_JOINS, B_JOINS, Told(S, B, MEMBER, Some(B), JOIN), A_WRITES,
+        Told(S, A, MESSAGE, None, HI), Told(S, A, MESSAGE, None, HI)],
+        replies: &[(R, B, ONE), (S, B, TWO), (S, A, NOTHING)] },
+    Row { name: "a state event without local members", events: &[Told(R, REMOTE, "m.room.create", Some(""), "{}")],
+        replies: &[(R, A, NOTHING), (R, B, NOTHING)] },
+    Row { name: "what such an event sets",
+        events: &[Told(R, REMOTE, "m.room.create", Some(""), "{}"), B_JOINS, Told(R, REMOTE, MESSAGE, None, AT_ROOM)],
+        replies: &[(R, B, ONE_HIGHLIGHTED)] },
 ];
 
 #[rattlefmt::skip]
 static SAID: [Row; 7] = [
-    Row { name: "a display name", events: &[A_JOINS, Told(R, B, MEMBER, Some(B), r#"{"displayname":"Bob","membership":"join"}"#), C_JOINS, Told(R, A, MESSAGE, None, r#"{"body":"hi bob","msgtype":"m.text"}"#)], replies: &[(R, B, ONE_HIGHLIGHTED), (R, C, ONE)] },
-    Row { name: "a localpart", events: &[A_JOINS, B_JOINS, C_JOINS, Told(R, A, MESSAGE, None, r#"{"body":"hi, B!","msgtype":"m.text"}"#)], replies: &[(R, B, ONE_HIGHLIGHTED), (R, C, ONE)] },
-    Row { name: "a mention", events: &[A_JOINS, B_JOINS, C_JOINS, Told(R, A, MESSAGE, None, r#"{"body":"hi","m.mentions":{"user_ids":["@b:example.org"]},"msgtype":"m.text"}"#)], replies: &[(R, B, ONE_HIGHLIGHTED), (R, C, ONE)] },
-    Row { name: "a notice", events: &[A_JOINS, B_JOINS, Told(R, A, MESSAGE, None, r#"{"body":"hi","msgtype":"m.notice"}"#)], replies: &[(R, B, NOTHING)] },
-    Row { name: "an encrypted event", events: &[A_JOINS, B_JOINS, Told(R, A, "m.room.encrypted", None, "{}")], replies: &[(R, B, ONE)] },
-    Row { name: "an event of which no rule speaks", events: &[A_JOINS, B_JOINS, Told(R, A, "m.room.topic", Some(""), r#"{"topic":"hi"}"#)], replies: &[(R, B, NOTHING)] },
-    Row { name: "a tombstone", events: &[A_JOINS, B_JOINS, Told(R, A, "m.room.tombstone", Some(""), "{}")], replies: &[(R, B, ONE_HIGHLIGHTED)] },
+    Row { name: "a display name",
+        events: &[A_JOINS, Told(R, B, MEMBER, Some(B), r#"{"displayname":"Bob","membership":"join"}"#), C_JOINS,
+            Told(R, A, MESSAGE, None, r#"{"body":"hi bob","msgtype":"m.text"}"#)],
+        replies: &[(R, B, ONE_HIGHLIGHTED), (R, C, ONE)] },
+    Row { name: "a localpart",
+        events: &[A_JOINS, B_JOINS, C_JOINS, Told(R, A, MESSAGE, None, r#"{"body":"hi, B!","msgtype":"m.text"}"#)],
+        replies: &[(R, B, ONE_HIGHLIGHTED), (R, C, ONE)] },
+    Row { name: "a mention",
+        events: &[A_JOINS, B_JOINS, C_JOINS, Told(R, A, MESSAGE, None,
+            r#"{"body":"hi","m.mentions":{"user_ids":["@b:example.org"]},"msgtype":"m.text"}"#)],
+        replies: &[(R, B, ONE_HIGHLIGHTED), (R, C, ONE)] },
+    Row { name: "a notice",
+        events: &[A_JOINS, B_JOINS, Told(R, A, MESSAGE, None, r#"{"body":"hi","msgtype":"m.notice"}"#)],
+        replies: &[(R, B, NOTHING)] },
+    Row { name: "an encrypted event",
+        events: &[A_JOINS, B_JOINS, Told(R, A, "m.room.encrypted", None, "{}")],
+        replies: &[(R, B, ONE)] },
+    Row { name: "an event of which no rule speaks",
+        events: &[A_JOINS, B_JOINS, Told(R, A, "m.room.topic", Some(""), r#"{"topic":"hi"}"#)],
+        replies: &[(R, B, NOTHING)] },
+    Row { name: "a tombstone",
+        events: &[A_JOINS, B_JOINS, Told(R, A, "m.room.tombstone", Some(""), "{}")],
+        replies: &[(R, B, ONE_HIGHLIGHTED)] },
 ];

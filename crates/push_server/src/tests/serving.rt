@@ -1,7 +1,8 @@
 //! Whole runs of the program, from the bytes that come in to the bytes that go out.
 
 use super::fixtures::{
-    Script, front_of, is_served, run_words, script_of, serve_from, serve_words, sink, source_of,
+    Script, front_of, is_served, memory, run_words, script_of, serve_from, serve_words, sink,
+    source_of,
 };
 use crate::serve::serve_within;
 use crate::status::Status;
@@ -148,7 +149,8 @@ fn a_read_fault_at_each_call(rt: HostRuntime) {
     }
 }
 
-/// Whether it ends so where this call fails, with the replies to the lines that end in so many bytes.
+/// Whether it ends so where this call fails,
+/// with the replies to the lines that end in so many bytes.
 fn ends_at_fault(rt: &impl Abort, alloc: Global, call: u64, taken: usize, status: Status) -> bool {
     let script = script_of(rt, alloc, &FIRST_MESSAGES);
     serve_to_fault(rt, alloc, &script, call) == (status, Some(script.replied(taken)))
@@ -223,7 +225,8 @@ fn serve_words_within<S: Source, K: Sink>(
     sink: &mut K,
 ) -> Status {
     let words = run_words(rt, alloc);
-    serve_within(alloc, &words, limit, source, sink)
+    let mut disk = memory(rt, alloc, b"");
+    serve_within(alloc, &words, limit, source, sink, &mut disk)
 }
 
 #[test]

@@ -1,4 +1,5 @@
-//! Sources and sinks that watch how the loop calls them: what no clause can say of the order of calls.
+//! Sources and sinks that watch how the loop calls them:
+//! what no clause can say of the order of calls.
 
 ghost use Rattle.std.specs.Prelude.{◌≡◌, ◌≤◌};
 ghost use Rattle.mx_outside.specs.Told.{Rose};
@@ -96,7 +97,8 @@ fn each_line_is_answered_before_the_next_read(rt: HostRuntime) {
     assert_eq!(rt; watch(&rt, rt.alloc()), (Status::Done, 3, 65_536));
 }
 
-/// How serving three lines ends, how many replies it writes, and the most bytes that a read asks for.
+/// How serving three lines ends, how many replies it writes,
+/// and the most bytes that a read asks for.
 fn watch(rt: &impl Abort, alloc: Global) -> (Status, usize, usize) {
     let replied = Cell::new(0);
     let mut source = OneByOne {
